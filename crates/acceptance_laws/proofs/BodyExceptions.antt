@@ -15,7 +15,7 @@ use Rattle.java_typed_trees.specs.Exceptions.{throws_of}
 use Rattle.java_typed_trees.specs.Exceptions as rules
 use Rattle.java_typed_trees.specs.StatementTrees.{StmtTrees, statements}
 use Rattle.java_laying.proofs.BodyLaws.{has_operands, has_parts, has_statements}
-use Rattle.java_expression_rules.specs.Surroundings.{Surroundings}
+use Rattle.java_call_rules.specs.Surroundings.{Surroundings}
 use Rattle.java_laying.specs.Bodies.{IsLaid}
 use Rattle.program_reading.specs.FieldInitializers.{initializer_statements, initializer_surroundings, initializers_cases}
 use Rattle.program_reading.specs.Parameters.{parameters_cases}

@@ -13,8 +13,8 @@ use Rattle.program_model.specs.SuperTests.{is_under}
 use Rattle.java_syntax.specs.declared.names.Name.{Name}
 use Rattle.java_syntax.specs.StatementTrees.{CatchTrees, no_catch, and_catch}
 use Rattle.java_typed_trees.specs.Exceptions.{is_checked, is_undeclared}
-use Rattle.java_expression_rules.specs.Names.{class_of_name, unknown_name_cases}
-use Rattle.java_expression_rules.specs.Surroundings.{Surroundings}
+use Rattle.java_call_rules.specs.WrittenTypes.{class_of_name, unknown_name_cases}
+use Rattle.java_call_rules.specs.Surroundings.{Surroundings}
 use Rattle.java_statement_rules.specs.CatchClauses.{alternative_cases, alternatives_cases, caught_by, caught_class, classes_named, each_alternative_cases, exception_cases, has_alternative, if_exception, is_exception_class, or_throwable}
 use Rattle.java_statement_rules.specs.Contexts.{StatementContext, locals_of}
 use Rattle.java_statement_rules.specs.DeclaredVariables.{double_cases}

@@ -9,8 +9,8 @@ use Rattle.program_model.specs.declared.program.Program.{Program}
 use Rattle.breadth_first.specs.Searches.{AreOnce, IsAt, Stands}
 use Rattle.breadth_first.proofs.ListLaws.{at_append, at_map, length_mapped, map_at}
 use Rattle.program_faults.proofs.ListLemmas.{once_length}
-use Rattle.java_control.specs.declared.fact.Origin.{Origin}
-use Rattle.java_control.specs.declared.fact.Rule.{Rule}
+use Rattle.control_actions.specs.declared.fact.Origin.{Origin}
+use Rattle.control_actions.specs.declared.fact.Rule.{Rule}
 use Rattle.fault_order.specs.declared.fault.FaultAt.{FaultAt}
 use Rattle.accepted_programs.specs.Paths.{Relation, relation_of}
 use Rattle.program_faults.specs.Faults.{AreFaultsOf}

@@ -17,7 +17,7 @@ use Rattle.class_names.specs.Meanings.{CompilationUnit}
 use Rattle.class_names.specs.WrittenTypes.{written_type}
 use Rattle.program_reading.specs.ClassOrderDeclarations.{Declaration, class_names}
 use Rattle.program_reading.specs.ClassDeclarationsMembers.{ConstantOf, ConstructorOf, ImpliedConstructor, MethodOf, Written, WrittenMethod, kind_of, name_of, parameters_of}
-use Rattle.program_reading.specs.DoubleMembers.{double_member_cases, have_one_signature, is_invocable, is_one_type}
+use Rattle.program_reading.specs.DoubleMembers.{double_member_cases, is_invocable, is_one_type}
 use Rattle.accepted_programs.proofs.Elements.{contains-first}
 use Rattle.program_reading.specs.DoubleMembers as members
 use Rattle.program_reading.specs.Methods.{IsMethod, IsParameter}

@@ -16,13 +16,14 @@ use Rattle.java_typed_trees.specs.Exceptions.{classes_thrown, is_undeclared, und
 use Rattle.java_typed_trees.specs.Answers.{refused, type_of, void_cases}
 use Rattle.java_typed_trees.specs.ExpressionTrees.{ExprTree, ExprTrees, Node, and_expression, expressions, no_expression}
 use Rattle.java_typed_trees.specs.Settling.{own_cases, tree_in}
-use Rattle.java_expression_rules.specs.JavaMemberRulesNames.{implied_this}
-use Rattle.java_expression_rules.specs.Arguments.{all_in_context, in_context, in_contexts, operands_in_context, takes_context}
-use Rattle.java_expression_rules.specs.Assignments.{implied_one}
-use Rattle.java_expression_rules.specs.Calls.{argument_trees, is_implied, is_written_this, method_in, parameters_of, with_implied_this}
-use Rattle.java_expression_rules.specs.Names.{cast_type, class_meant, element_type, tested_type, type_cases}
-use Rattle.java_expression_rules.specs.Surroundings.{Surroundings}
-use Rattle.java_expression_rules.specs.TypedParts.{Typing, facts_of, one, operand, own_refusals, parts_of, trees_in, two, three, value_refusals, with_last}
+use Rattle.java_variable_rules.specs.JavaMemberRulesNames.{implied_this}
+use Rattle.java_call_rules.specs.Arguments.{all_in_context, in_context, in_contexts, operands_in_context, takes_context}
+use Rattle.java_variable_rules.specs.Assignments.{implied_one, is_written_this}
+use Rattle.java_call_rules.specs.CallParts.{argument_trees, is_implied, method_in, parameters_of, with_implied_this}
+use Rattle.java_call_rules.specs.WrittenTypes.{cast_type, element_type, tested_type, type_cases}
+use Rattle.java_variable_rules.specs.Names.{class_meant}
+use Rattle.java_call_rules.specs.Surroundings.{Surroundings}
+use Rattle.java_call_rules.specs.TypedParts.{Typing, facts_of, one, operand, own_refusals, parts_of, trees_in, two, three, value_refusals, with_last}
 use Rattle.java_statement_parts.specs.Cases.{argument_cases, cases, class_cases, operand_cases, target_cases}
 use Rattle.java_statement_parts.specs.Targets.{call_on, field_on, target_typing}
 use Rattle.java_statement_parts.specs.Typings.{answer_under, operand_typing, tree, typing, typings}

@@ -23,11 +23,11 @@ use Rattle.java_typed_trees.specs.Exceptions.{classes_thrown, is_undeclared, thr
 use Rattle.java_typed_trees.specs.ExpressionTrees.{ExprTree, expressions}
 use Rattle.java_typed_trees.specs.Answers.{refused}
 use Rattle.java_typed_trees.specs.Settling.{own_cases}
-use Rattle.java_expression_rules.specs.Calls.{method_in, method_of_shape}
-use Rattle.java_expression_rules.specs.Surroundings.{Surroundings}
+use Rattle.java_call_rules.specs.CallParts.{method_in, method_of_shape}
+use Rattle.java_call_rules.specs.Surroundings.{Surroundings}
 use Rattle.java_statement_rules.specs.Contexts.{StatementContext, locals_of, program_of, with_local}
 use Rattle.java_statement_rules.specs.DeclaredVariables.{double_cases}
-use Rattle.java_statement_rules.specs.JavaExpressionRulesNames.{cast_type, type_cases}
+use Rattle.java_statement_rules.specs.WrittenTypes.{cast_type, type_cases}
 use Rattle.java_statement_rules.specs.Resources.{class_type}
 use Rattle.java_statement_rules.specs.StatementCases.{condition_cases, return_cases, storing_cases, throw_by}
 use Rattle.java_statement_parts.specs.Cases.{cases, value_cases}

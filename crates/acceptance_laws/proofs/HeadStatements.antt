@@ -23,11 +23,11 @@ use Rattle.java_typed_trees.specs.Settling.{own_cases}
 use Rattle.java_typed_trees.specs.StatementTrees.{Statement, StmtTree, statements}
 use Rattle.java_typed_trees.specs.StatementTrees as forms
 use Rattle.java_laying.specs.StatementForest.{StatementsStandAt, StatementStandsAt}
-use Rattle.java_expression_rules.specs.Calls.{method_in, parameters_of}
-use Rattle.java_expression_rules.specs.Arguments.{in_contexts}
-use Rattle.java_expression_rules.specs.JavaMemberRulesNames.{implied_this}
-use Rattle.java_expression_rules.specs.Surroundings.{Surroundings}
-use Rattle.java_expression_rules.specs.TypedParts.{trees_in}
+use Rattle.java_call_rules.specs.CallParts.{method_in, parameters_of}
+use Rattle.java_call_rules.specs.Arguments.{in_contexts}
+use Rattle.java_variable_rules.specs.JavaMemberRulesNames.{implied_this}
+use Rattle.java_call_rules.specs.Surroundings.{Surroundings}
+use Rattle.java_call_rules.specs.TypedParts.{trees_in}
 use Rattle.java_statement_rules.specs.Completions as rules_of
 use Rattle.java_statement_rules.specs.Contexts.{StatementContext}
 use Rattle.java_statement_parts.specs.Cases.{argument_cases, value_cases}

@@ -27,7 +27,7 @@ use Rattle.java_laying.specs.Cells.{Cell, cells_of}
 use Rattle.java_laying.specs.Forest.{StandAt}
 use Rattle.java_laying.specs.StatementCells.{StatementCell, statement_cells}
 use Rattle.java_laying.specs.StatementForest.{StatementsStandAt, StatementStandsAt}
-use Rattle.java_expression_rules.specs.Surroundings.{Surroundings}
+use Rattle.java_call_rules.specs.Surroundings.{Surroundings}
 use Rattle.java_statement_rules.specs.declared.completion.Completion as rules
 use Rattle.java_statement_rules.specs.Completions as rules_of
 use Rattle.java_statement_rules.specs.Contexts.{StatementContext, covered_of, in_a_loop, program_of}

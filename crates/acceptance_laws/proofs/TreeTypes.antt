@@ -14,11 +14,12 @@ use Rattle.java_typed_trees.specs.declared.facts.StaticType.TheVariants as stati
 use Rattle.java_typed_trees.specs.Answers.{as_value, facts_in, type_in, type_of, value_type}
 use Rattle.java_typed_trees.specs.ExpressionTrees.{ExprTree, ExprTrees, and_expression, no_expression}
 use Rattle.java_typed_trees.specs.Settling.{tree_in}
-use Rattle.java_expression_rules.specs.Calls.{argument_trees, is_written_this}
-use Rattle.java_expression_rules.specs.Literals.{literal_by}
-use Rattle.java_expression_rules.specs.Names.{class_meant}
-use Rattle.java_expression_rules.specs.Surroundings.{Surroundings}
-use Rattle.java_expression_rules.specs.TypedParts.{Typing, one, operand}
+use Rattle.java_call_rules.specs.CallParts.{argument_trees}
+use Rattle.java_variable_rules.specs.Assignments.{is_written_this}
+use Rattle.java_operator_expressions.specs.Literals.{literal_by}
+use Rattle.java_variable_rules.specs.Names.{class_meant}
+use Rattle.java_call_rules.specs.Surroundings.{Surroundings}
+use Rattle.java_call_rules.specs.TypedParts.{Typing, one, operand}
 use Rattle.java_statement_rules.specs.Completions.{is_always_true}
 use Rattle.java_statement_parts.specs.Heads.{is_always}
 use Rattle.java_statement_parts.specs.Targets.{call_on, field_on, target_typing}

@@ -55,4 +55,3 @@ pub use Rattle.place_laws.proofs.ValuesAfter
 pub use Rattle.heap_laws.proofs.Walks
 pub use Rattle.heap_laws.proofs.WaysUp
 pub use Rattle.heap_laws.proofs.ReachedRoots
-pub use Rattle.heap_laws.proofs.ResetsUp

@@ -1,6 +1,6 @@
 -- What is old when a frame begins: the finished objects whose way up ends at one that neither this frame nor one above owns; and what was old for the frame below.
-use Rattle.std.proofs.Common.{◌≡◌, ◌⊎◌, inl, inr, ℕ, ◌+◌, ◌<◌, Bool, true, false, not, ◌&&◌, ◌||◌, Option, Some, None, List, ◌∷◌, length, nat_lt, refl, sym, ap, ◌∙◌, subst, true≢false, arith}
-use Rattle.std.proofs.lemmas.Bool.{and_from, and_parts, not-true, or_left, or_right}
+use Rattle.std.proofs.Common.{◌≡◌, ◌⊎◌, inl, inr, ℕ, ◌+◌, Bool, true, false, not, ◌&&◌, ◌||◌, Option, Some, None, List, ◌∷◌, length, refl, sym, ap, ◌∙◌, true≢false}
+use Rattle.std.proofs.lemmas.Bool.{and_from, and_parts, not-true, or_right}
 use Rattle.program_model.specs.declared.program.Program.{Program}
 use Rattle.program_model.specs.Lookups.{method_at}
 use Rattle.ledger_state.specs.Contents.{HeapContents}
@@ -15,7 +15,7 @@ use Rattle.heap_laws.proofs.RootLaws.{one_object}
 use Rattle.heap_laws.proofs.WaysUp.{one_top}
 use Rattle.ledger_runs.specs.Configuration.{Frame}
 use Rattle.agreement.specs.Chains.{HaveEnds}
-use Rattle.agreement.specs.PlaceFacts.{EndsBelow, IsContentOfThis, IsHeavyObject, IsInFieldBelow, IsOld, RunsOn, is_frame_below, is_frame_from, is_settled, leaves_all}
+use Rattle.agreement.specs.PlaceFacts.{IsContentOfThis, IsHeavyObject, IsInFieldBelow, IsOld, RunsOn, is_frame_below, is_frame_from, is_settled, leaves_all}
 use Rattle.agreement.proofs.SparingCalls.{ends_further}
 use Rattle.agreement.proofs.Tops.{has_top}
 

@@ -1,13 +1,13 @@
 -- While a method that creates the obligation of `this` anew runs, which may store into the fields of its `this`, each frame below it that runs on the same object lends this object, or is not settled: so what
 -- is said of the fields of `this` in settled frames, and in those that answer for the fields of `this`, is not touched by stores of frames above.
-use Rattle.std.proofs.Common.{◌≡◌, ◌⊎◌, inl, inr, ℕ, ◌+◌, Bool, true, false, not, ◌&&◌, ◌||◌, Option, Some, None, List, [], ◌∷◌, length, refl, sym, ap, ◌∙◌, subst, true≢false, eqb-true}
+use Rattle.std.proofs.Common.{◌≡◌, ◌⊎◌, inl, inr, ℕ, ◌+◌, Bool, true, false, not, ◌&&◌, ◌||◌, Some, None, List, [], ◌∷◌, length, refl, sym, ap, ◌∙◌, subst, true≢false, eqb-true}
 use Rattle.std.proofs.lemmas.Bool.{and_parts, not-true}
 use Rattle.program_model.specs.declared.kinds.FieldId.{FieldId}
 use Rattle.program_model.specs.declared.program.Program.{Program}
 use Rattle.program_model.specs.Lookups.{method_at}
-use Rattle.ownership_rules.specs.Bodies.{alias_in, constructs, reset_in}
+use Rattle.ownership_rules.specs.Bodies.{alias_in, constructs}
 use Rattle.ownership_rules.specs.MustCallSets.{is_heavy_class}
-use Rattle.ownership_rules.specs.Signatures.{is_position, is_present}
+use Rattle.ownership_rules.specs.Signatures.{is_present}
 use Rattle.ledger_state.specs.Contents.{HeapContents}
 use Rattle.ledger_state.specs.Heaps.{object_at, same_root}
 use Rattle.ledger_state.specs.Values.{number_of}
@@ -17,9 +17,9 @@ use Rattle.ledger_state.specs.declared.object.Object.{Object}
 use Rattle.ledger_state.specs.declared.value.Value.{Value}
 use Rattle.ledger_state.specs.declared.value.Value.TheVariants as values
 use Rattle.heap_laws.specs.Anew.{is_field_owner}
-use Rattle.heap_laws.specs.Holders.{HasTop, HoldersAreUnlinked, IsWithin, itself}
+use Rattle.heap_laws.specs.Holders.{HoldersAreUnlinked, IsWithin, itself}
 use Rattle.heap_laws.proofs.RootLaws.{one_object}
-use Rattle.heap_laws.proofs.WaysUp.{own_top, top_is_last}
+use Rattle.heap_laws.proofs.WaysUp.{top_is_last}
 use Rattle.ledger_runs.specs.Configuration.{Frame}
 use Rattle.agreement.specs.Chains.{HaveEnds}
 use Rattle.agreement.specs.FieldContents.{AreNew, AreUnfinished}

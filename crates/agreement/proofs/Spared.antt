@@ -1,5 +1,5 @@
 -- A reset reaches no object that the call which began a frame spares, where that frame, or one above it, has the reset's target in hand.
-use Rattle.std.proofs.Common.{◌≡◌, ◌⊎◌, inl, inr, ℕ, zero, suc, ◌+◌, ◌<◌, ◌≤◌, Bool, true, false, not, Option, Some, None, List, [], ◌∷◌, ◌++◌, length, nat_lt, refl, sym, ap, ◌∙◌, subst, true≢false, arith}
+use Rattle.std.proofs.Common.{◌≡◌, ◌⊎◌, inl, inr, ℕ, ◌+◌, ◌≤◌, true, false, not, Option, Some, None, List, [], ◌∷◌, ◌++◌, length, refl, sym, ap, ◌∙◌, subst, true≢false, arith}
 use Rattle.std.proofs.lemmas.Bool.{and_parts}
 use Rattle.std.proofs.lemmas.Bool.Decides.{nat_tests}
 use Rattle.program_model.specs.declared.kinds.FieldId.{FieldId}
@@ -146,21 +146,6 @@ pub spared_is_not_reached : (p : Program) (h : HeapContents) → HaveEnds h → 
 spared_is_not_reached p h have below z t spared known fr mid new unfinished x at heavy hand within =
     in_hand_above p h have below z t known within (renewed_below p h have below z t known within spared) fr mid new unfinished x at heavy hand
 
--- What a field of a spared object owns is spared.
-pub content_is_spared : (p : Program) (h : HeapContents) (frs : List Frame) (o w : ℕ) (f : FieldId) (x : Object) → object_at h o ≡ Some x → x.owner ≡ owners.Field w f → IsSpared p h frs w → IsSpared p h frs o
-content_is_spared p h [] o w f x at owned spared = tt
-content_is_spared p h (fr ∷ frs) o w f x at owned spared = λ u y there heavy comes. spared u y there heavy (go u comes)
-  where
-    up : IsWithin h o w
-    up = by_field o w w f x at owned (itself w)
-
-    go : (u : ℕ) → IsComparable h u o → IsComparable h u w
-    go u (inl below) = inl (within_further h u o w below up)
-    go u (inr above) = elim (on_from_holder h o w u f x at owned above) [
-      | inl here ↦ inl (subst (λ (n : ℕ). IsWithin h n w) here up)
-      | inr further ↦ inr further
-    ]
-
 -- ---- what a field of an object owns that is lent
 
 -- The frame `g` has object `w`, its `this`, lent, and runs no constructor; field `f` of `w` owns object `z`. The call at which it waits creates neither the obligation of `w` nor that
@@ -193,24 +178,3 @@ module _ (p : Program) (h : HeapContents) (have : HaveEnds h) (g : Frame) (below
       let same : held.holder ≡ w = (let both : values.Object held.holder ≡ values.Object w = sym held.runs ∙ keeps.runs in cc) in
       true≢false (sym renewed ∙ ap (is_renewed p h g) (sibling o x held.field at (held.owns ∙ ap (λ (n : ℕ). owners.Field n held.field) same) up) ∙ keeps.content)
   waiting o x up at heavy (renewed, inr (inr (inr (inr made)))) = true≢false (sym (and_parts (constructs (method_at p g.method)) (not (is_present (alias_in (method_at p g.method)))) made.0.alone).0 ∙ keeps.method)
-
--- A reset whose target is in hand of a frame above `g` reaches no such content.
-pub content_is_not_reached : (p : Program) (h : HeapContents) → HaveEnds h → (g : Frame) (below : List Frame) (w : ℕ) (f : FieldId) (z : ℕ) (y : Object) → KeepsContent p h g below w f z y → (t : ℕ) → EndsBelow h below z
-    → (fr : Frame) (mid : List Frame) → AreNew p (fr ∷ (mid ++ (g ∷ below))) → AreUnfinished p h (fr ∷ (mid ++ (g ∷ below))) → (x : Object) → object_at h t ≡ Some x → IsWholeObject p x
-    → HasInHand p h (IsLentFrom p h (mid ++ (g ∷ below))) (length (mid ++ (g ∷ below)) + 1) fr t x.owner → IsWithin h t z → ⊥
-content_is_not_reached p h have g below w f z y keeps t known fr mid new unfinished x at heavy hand within =
-    in_hand_above p h have (g ∷ below) z t (ends_below_more g known) within (waiting p h have g below w f z y keeps t known within) fr mid new unfinished x at heavy hand
-  where
-    ends_below_more : (g : Frame) → EndsBelow h below z → EndsBelow h (g ∷ below) z
-    ends_below_more g ends = record { end = ends.end; top = ends.top; below = later (ends.top.object.owner) ends.below; older = λ open'. inr (ends.older open') }
-      where
-        later : (o : Owner) → is_frame_from (length below + 1) o ≡ false → is_frame_from (length (g ∷ below) + 1) o ≡ false
-        later (owners.Frame i) is = further i is
-          where
-            further : (i : ℕ) → not (nat_lt i (length below + 1)) ≡ false → not (nat_lt i (suc (length below) + 1)) ≡ false
-            further i is' = grind (arith, nat_tests, is')
-        later (owners.Field v k) is = refl
-        later owners.Library is = refl
-        later owners.Released is = refl
-        later owners.Lost is = refl
-        later owners.Unowned is = refl

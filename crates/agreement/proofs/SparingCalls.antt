@@ -1,11 +1,11 @@
 -- What is lent has its end below the frame that it is lent to; and a call creates anew the obligation of nothing that is within, or is within which, what its frame owns, what was spared, or
 -- what another field of an object owns that is lent, but for the target itself. So the frame that the call begins leaves the names that were called on these.
-use Rattle.std.proofs.Common.{◌≡◌, ◌⊎◌, inl, inr, ℕ, zero, suc, ◌+◌, ◌<◌, ◌≤◌, Bool, true, false, not, ◌&&◌, Option, Some, None, List, [], ◌∷◌, length, nat_lt, refl, sym, ap, ◌∙◌, subst, true≢false, arith}
+use Rattle.std.proofs.Common.{◌≡◌, inl, inr, ℕ, suc, ◌+◌, ◌≤◌, true, false, not, Some, List, [], ◌∷◌, length, refl, sym, ap, ◌∙◌, subst, true≢false, arith}
 use Rattle.std.proofs.lemmas.Bool.{and_parts}
 use Rattle.std.proofs.lemmas.Bool.Decides.{nat_tests}
 use Rattle.program_model.specs.declared.kinds.FieldId.{FieldId}
 use Rattle.program_model.specs.declared.program.Program.{Program}
-use Rattle.program_model.specs.Lookups.{field_at, method_at}
+use Rattle.program_model.specs.Lookups.{method_at}
 use Rattle.ownership_rules.specs.Bodies.{alias_in, constructs}
 use Rattle.ownership_rules.specs.Signatures.{is_present}
 use Rattle.ledger_state.specs.Contents.{HeapContents}
@@ -15,14 +15,14 @@ use Rattle.ledger_state.specs.declared.entry.Owner.TheVariants as owners
 use Rattle.ledger_state.specs.declared.object.Object.{Object}
 use Rattle.ledger_state.specs.declared.value.Value.TheVariants as values
 use Rattle.heap_laws.specs.Anew.{is_field_owner}
-use Rattle.heap_laws.specs.Holders.{HasTop, IsComparable, IsWithin, by_field, itself}
+use Rattle.heap_laws.specs.Holders.{HasTop, IsComparable, by_field, itself}
 use Rattle.heap_laws.proofs.RootLaws.{one_object}
 use Rattle.heap_laws.proofs.WaysUp.{has_holders_top, on_from_holder, one_top, own_top, top_is_last, within_further, within_top}
 use Rattle.ledger_runs.specs.Configuration.{Frame}
 use Rattle.agreement.specs.Chains.{HaveEnds}
-use Rattle.agreement.specs.FieldContents.{AreNew, AreUnfinished, DeclaresOwning, RunOnOthers}
+use Rattle.agreement.specs.FieldContents.{AreNew, AreUnfinished}
 use Rattle.agreement.specs.PlaceFacts.{EndsBelow, IsSpared, RunsOn, is_frame_from}
-use Rattle.agreement.specs.Renewing.{HasInHand, IsHeldBy, IsHeldByLent, IsLentFrom, IsMadeBy, IsOwnedByThis, IsWholeObject, is_renewed}
+use Rattle.agreement.specs.Renewing.{HasInHand, IsHeldBy, IsLentFrom, IsMadeBy, IsWholeObject, is_renewed}
 use Rattle.agreement.proofs.Spared.{KeepsContent, declares, elsewhere, from_here}
 use Rattle.agreement.proofs.Tops.{ends_above, no_way_round}
 

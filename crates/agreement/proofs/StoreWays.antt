@@ -1,18 +1,14 @@
 -- A store into a field of a finished object that is lent to the frame which stores: what the field held leaves the way up, and is given up, and what the frame owned joins it. What ends below frames does so
 -- still; what they spare they spared, where it was not given up; what is lent to them is lent to them still; and what was old when they began is as it was.
-use Rattle.std.proofs.Common.{◌≡◌, ◌⊎◌, inl, inr, ℕ, ◌+◌, ◌≤◌, Bool, true, false, not, ◌&&◌, ◌||◌, Option, Some, None, List, [], ◌∷◌, length, refl, sym, ap, ◌∙◌, subst, true≢false, arith}
-use Rattle.std.proofs.lemmas.Bool.{and_parts}
+use Rattle.std.proofs.Common.{◌≡◌, ◌⊎◌, inl, inr, ℕ, ◌+◌, ◌≤◌, Bool, true, false, Some, None, List, [], ◌∷◌, length, refl, sym, ap, ◌∙◌, subst, true≢false, arith}
 use Rattle.program_model.specs.declared.kinds.FieldId.{FieldId}
 use Rattle.program_model.specs.declared.program.Program.{Program}
 use Rattle.program_model.specs.Lookups.{method_at}
-use Rattle.ownership_rules.specs.Bodies.{alias_in, constructs, reset_in}
 use Rattle.ownership_rules.specs.MustCallSets.{is_heavy_class}
-use Rattle.ownership_rules.specs.Signatures.{is_position, is_present}
 use Rattle.ledger_state.specs.Contents.{HeapContents}
 use Rattle.ledger_state.specs.Heaps.{object_at}
 use Rattle.ledger_state.specs.declared.entry.Owner.{Owner}
 use Rattle.ledger_state.specs.declared.entry.Owner.TheVariants as owners
-use Rattle.ledger_state.specs.declared.object.Link.{Link}
 use Rattle.ledger_state.specs.declared.object.Object.{Object}
 use Rattle.ledger_state.specs.declared.value.Value.TheVariants as values
 use Rattle.heap_laws.specs.Anew.{is_field_owner}
@@ -23,7 +19,7 @@ use Rattle.ledger_runs.specs.Configuration.{Frame}
 use Rattle.agreement.specs.Chains.{HaveEnds}
 use Rattle.agreement.specs.FieldContents.{AreNew, AreUnfinished}
 use Rattle.agreement.specs.PlaceFacts.{EndsBelow, IsAnswered, IsContentOfThis, IsHeavyObject, IsInFieldBelow, IsOld, IsOwnedBelow, IsSpared, OwesOrHolds, Spares, is_frame_below, is_frame_from, is_given_up, leaves_all}
-use Rattle.agreement.specs.Renewing.{HasInHand, HasOwningField, IsHeldByLent, IsLentFrom, IsOwnedByThis, IsWhole, IsWholeObject, answers_for_fields, is_renewed, lends_this, makes_alone, reopens}
+use Rattle.agreement.specs.Renewing.{HasInHand, HasOwningField, IsLentFrom, IsOwnedByThis, IsWhole, IsWholeObject, is_renewed}
 use Rattle.agreement.proofs.SettledFrames.{IsOnTheWay, way_goes_down}
 use Rattle.agreement.proofs.Spared.{from_here}
 use Rattle.agreement.proofs.SparingCalls.{lent_ends_below}

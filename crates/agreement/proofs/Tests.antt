@@ -1,12 +1,11 @@
 -- A program in hand meets the conditions where tests pass that compute over its tables.
-use Rattle.std.proofs.Common.{◌≡◌, ◌∙◌, ◌⊎◌, ◌&&◌, ◌||◌, ◌+◌, not, inl, ap, refl, sym, eqb-true, arith, Bool, true, false, ℕ, zero, suc, Option, Some, None, List, [], ◌∷◌, All, slice_get, true≢false}
+use Rattle.std.proofs.Common.{◌≡◌, ◌∙◌, ◌&&◌, ◌||◌, ◌+◌, not, inl, ap, refl, sym, eqb-true, arith, Bool, true, false, ℕ, zero, suc, Option, Some, None, List, [], ◌∷◌, All, slice_get, true≢false}
 use Rattle.std.specs.List.{list_all}
 use Rattle.std.proofs.lemmas.Bool.{and_parts}
 use Rattle.std.proofs.lemmas.List.Elements.{All-contains}
 use Rattle.std.proofs.lemmas.List.Sums.{AllPass-from_list_all}
 use Rattle.program_model.specs.declared.kinds.ClassId.{ClassId}
 use Rattle.program_model.specs.declared.kinds.MethodId.{MethodId}
-use Rattle.program_model.specs.declared.kinds.MethodKind.{MethodKind}
 use Rattle.program_model.specs.declared.kinds.MethodKind.TheVariants as methods
 use Rattle.program_model.specs.declared.kinds.VType.{VType}
 use Rattle.program_model.specs.declared.kinds.VType.TheVariants as types
@@ -23,7 +22,7 @@ use Rattle.place_laws.specs.AcceptedProgramsConditions.{HasWholeLibrary}
 use Rattle.place_laws.proofs.Arguments.{calls_pass_nothing, passing_nothing}
 use Rattle.agreement.specs.Conditions.{KeepsObligations, MeetsFileConditions, OwnersStandAlone, OwnsNoRenewedText, may_own_renewed_text, stands_under_owner}
 use Rattle.agreement.specs.LibraryClasses.{HasLightTexts, language_exceptions}
-use Rattle.agreement.specs.PlainForms.{all_owe_nothing, may_be_made}
+use Rattle.agreement.specs.PlainForms.{may_be_made}
 use Rattle.ownership_rules.specs.MustCallSets.{is_empty, must_of, must_of_optional, must_of_type}
 
 -- ---- the tests

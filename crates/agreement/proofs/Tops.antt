@@ -1,5 +1,5 @@
 -- The ways up from objects to those whose fields own them, where each of them ends: there is no way round, each object has a top, and how these go on.
-use Rattle.std.proofs.Common.{◌≡◌, ◌⊎◌, inl, inr, ℕ, Bool, true, false, Option, Some, None, refl, sym, ap, ◌∙◌, subst, true≢false}
+use Rattle.std.proofs.Common.{◌≡◌, inl, inr, ℕ, true, false, Option, Some, None, refl, sym, ap, ◌∙◌, subst, true≢false}
 use Rattle.program_model.specs.declared.kinds.FieldId.{FieldId}
 use Rattle.ledger_state.specs.Contents.{HeapContents}
 use Rattle.ledger_state.specs.Heaps.{object_at}
@@ -7,9 +7,9 @@ use Rattle.ledger_state.specs.declared.entry.Owner.{Owner}
 use Rattle.ledger_state.specs.declared.entry.Owner.TheVariants as owners
 use Rattle.ledger_state.specs.declared.object.Object.{Object}
 use Rattle.heap_laws.specs.Anew.{is_field_owner}
-use Rattle.heap_laws.specs.Holders.{FieldsGoOnOwning, FieldsOwnOneMore, HasTop, IsWithin, UnfinishedAreUnowned, itself, by_field}
+use Rattle.heap_laws.specs.Holders.{FieldsOwnOneMore, HasTop, IsWithin, UnfinishedAreUnowned, itself, by_field}
 use Rattle.heap_laws.proofs.RootLaws.{one_object}
-use Rattle.heap_laws.proofs.WaysUp.{IsHeldOrNot, StepsUp, ends, free, goes, has_holders_top, held, held_or_not, one_holder, one_top, own_top, steps_up, within_goes_on, within_further, within_top}
+use Rattle.heap_laws.proofs.WaysUp.{IsHeldOrNot, StepsUp, ends, free, goes, has_holders_top, held, held_or_not, own_top, steps_up, within_further}
 use Rattle.agreement.specs.Chains.{Ends, HaveEnds, IsLast, ends_here, of_field}
 
 -- the owner is no field
@@ -49,14 +49,6 @@ none_round h _ (of_field w g z there rest) o v f x same at owned up =
 pub no_way_round : (h : HeapContents) → HaveEnds h → (o v : ℕ) (f : FieldId) (x : Object) → object_at h o ≡ Some x → x.owner ≡ owners.Field v f → IsWithin h v o → ⊥
 no_way_round h have o v f x at owned up = none_round h x.owner (have.ends o x at) o v f x refl at owned up
 
--- two objects that are within one another are one
-pub within_both : (h : HeapContents) → HaveEnds h → (a b : ℕ) → IsWithin h a b → IsWithin h b a → a ≡ b
-within_both h have a b up down = go (steps_up h a b up)
-  where
-    go : StepsUp h a b → a ≡ b
-    go (ends same) = same
-    go (goes v f x at owned above) = absurd (no_way_round h have a v f x at owned (within_further h v b a above down))
-
 -- ---- tops
 
 top_from : (h : HeapContents) (owner : Owner) → Ends h owner → (o : ℕ) (x : Object) → owner ≡ x.owner → object_at h o ≡ Some x → (e : ℕ) × HasTop h o e
@@ -80,19 +72,6 @@ has_top h have o x at = top_from h x.owner (have.ends o x at) o x refl at
 -- the heap `k` has the objects of the heap `h`
 abbrev pub KeepsObjects : HeapContents → HeapContents → Type 0
 KeepsObjects h k = (o : ℕ) (x : Object) → object_at h o ≡ Some x → (y : Object) × (object_at k o ≡ Some y)
-
--- where fields own what they owned, and nothing more, tops stay
-pub top_stays : (h k : HeapContents) → KeepsObjects h k → FieldsGoOnOwning h k → FieldsGoOnOwning k h → (o e : ℕ) → HasTop h o e → HasTop k o e
-top_stays h k stay on back o e top = record { within = within_goes_on h k o e on top.within; object = y.0; at = y.1; unheld = go (held_or_not y.0.owner) }
-  where
-    y : (y : Object) × (object_at k e ≡ Some y)
-    y = stay e top.object top.at
-
-    go : IsHeldOrNot y.0.owner → is_field_owner y.0.owner ≡ false
-    go (free none) = none
-    go (held v f owned) =
-        let x = back e y.0 v f y.1 owned in
-        absurd (true≢false (sym (ap is_field_owner x.2) ∙ ap (λ (z : Object). is_field_owner z.owner) (one_object x.0 top.object (object_at h e) x.1 top.at) ∙ top.unheld))
 
 -- ---- one object more is owned by a field
 
@@ -163,23 +142,3 @@ module _ (h k : HeapContents) (n w : ℕ) (more : FieldsOwnOneMore n w h k) (sta
         by_object : (o : ℕ) (y : Object) → object_at k o ≡ Some y → (x : Option Object) → object_at h o ≡ x → Ends k y.owner
         by_object o y there None none = fresh_ends o y none there
         by_object o y there (Some x) at = end_any x.owner (have.ends o x at) o x y refl at there
-
--- the tops: what had another top than the stored object keeps it, and what had that one has the top of the holder
-pub top_apart : (h k : HeapContents) (n w : ℕ) → FieldsOwnOneMore n w h k → KeepsObjects h k → FieldsGoOnOwning h k → (o e : ℕ) → (e ≡ n → ⊥) → HasTop h o e → HasTop k o e
-top_apart h k n w more stay on o e other top = record { within = within_goes_on h k o e on top.within; object = y.0; at = y.1; unheld = go (held_or_not y.0.owner) }
-  where
-    y : (y : Object) × (object_at k e ≡ Some y)
-    y = stay e top.object top.at
-
-    go : IsHeldOrNot y.0.owner → is_field_owner y.0.owner ≡ false
-    go (free none) = none
-    go (held v f owned) = elim (more e y.0 v f y.1 owned) [
-      | inl before ↦ absurd (true≢false (sym (ap is_field_owner before.2) ∙ ap (λ (z : Object). is_field_owner z.owner) (one_object before.0 top.object (object_at h e) before.1 top.at) ∙ top.unheld))
-      | inr new ↦ absurd (other new.0)
-    ]
-
-pub top_of_stored : (h k : HeapContents) (n w : ℕ) → FieldsOwnOneMore n w h k → KeepsObjects h k → FieldsGoOnOwning h k → (o e : ℕ) (f : FieldId) (y : Object) → object_at k n ≡ Some y → y.owner ≡ owners.Field w f
-    → (e ≡ n → ⊥) → HasTop h o n → HasTop h w e → HasTop k o e
-top_of_stored h k n w more stay on o e f y at owned other below above =
-    let top = top_apart h k n w more stay on w e other above in
-    record { within = within_further k o n e (within_goes_on h k o n on below.within) (by_field n w e f y at owned top.within); object = top.object; at = top.at; unheld = top.unheld }

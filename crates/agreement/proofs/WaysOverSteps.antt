@@ -1,7 +1,6 @@
 -- The ways up over a step: what fields owned they own still, but those of objects that are not finished, and new to what frames below know; and what a field owns besides was owned by a frame from a
 -- position on, and its holder is not finished. So ways up from finished objects with obligations that end below stay, and what is on them was on them.
-use Rattle.std.proofs.Common.{◌≡◌, ◌⊎◌, inl, inr, ℕ, ◌+◌, Bool, true, false, Option, Some, None, List, [], ◌∷◌, length, refl, sym, ap, ◌∙◌, subst, true≢false}
-use Rattle.program_model.specs.declared.kinds.ClassId.{ClassId}
+use Rattle.std.proofs.Common.{◌≡◌, ◌⊎◌, inl, inr, ℕ, ◌+◌, Bool, true, false, Some, None, List, [], ◌∷◌, length, refl, sym, ap, ◌∙◌, subst, true≢false}
 use Rattle.program_model.specs.declared.kinds.FieldId.{FieldId}
 use Rattle.program_model.specs.declared.program.Program.{Program}
 use Rattle.ownership_rules.specs.MustCallSets.{is_heavy_class}
@@ -13,7 +12,7 @@ use Rattle.ledger_state.specs.declared.object.Object.{Object}
 use Rattle.heap_laws.specs.Anew.{is_field_owner}
 use Rattle.heap_laws.specs.Holders.{HasTop, HoldersAreUnlinked, IsComparable, IsWithin, by_field, itself}
 use Rattle.heap_laws.proofs.RootLaws.{one_object}
-use Rattle.heap_laws.proofs.WaysUp.{StepsUp, ends, goes, one_top, steps_up, top_is_last, within_top}
+use Rattle.heap_laws.proofs.WaysUp.{StepsUp, ends, goes, one_top, steps_up, top_is_last}
 use Rattle.ledger_runs.specs.Configuration.{Frame}
 use Rattle.agreement.specs.Chains.{HaveEnds}
 use Rattle.agreement.specs.PlaceFacts.{EndsBelow, IsAnswered, IsHeavyObject, IsInFieldBelow, IsOwnedBelow, RunsOn, is_frame_below, is_frame_from, is_given_up}

@@ -14,12 +14,12 @@ use Rattle.ownership_rules.specs.MustCallSets.{fits, must_of}
 use Rattle.java_control.specs.Calls.{called_method}
 use Rattle.java_control.specs.Control.{Step}
 use Rattle.java_control.specs.PlaceNumbers.{IsSmall}
-use Rattle.java_control.specs.declared.action.Action.{Action}
-use Rattle.java_control.specs.declared.action.Action.TheVariants as actions
-use Rattle.java_control.specs.declared.fact.Fact.{Fact}
-use Rattle.java_control.specs.declared.fact.Mode.TheVariants as modes
-use Rattle.java_control.specs.declared.fact.Origin.{Origin}
-use Rattle.java_control.specs.declared.place.Place.{Place}
+use Rattle.control_actions.specs.declared.action.Action.{Action}
+use Rattle.control_actions.specs.declared.action.Action.TheVariants as actions
+use Rattle.control_actions.specs.declared.fact.Fact.{Fact}
+use Rattle.control_actions.specs.declared.fact.Mode.TheVariants as modes
+use Rattle.control_actions.specs.declared.fact.Origin.{Origin}
+use Rattle.control_actions.specs.declared.place.Place.{Place}
 use Rattle.ownership_rules.specs.Facts.{has, is_nowhere, need}
 use Rattle.ownership_rules.specs.MovesAtCalls.{moved_at_call}
 use Rattle.ownership_rules.specs.MovesAtReturns.{result_in}
@@ -118,9 +118,9 @@ abbrev pub IsMade : Program → HeapContents → MethodId → Value → Type 0
 IsMade p h m v = (k : ℕ) × (v ≡ values.Object k) × (k < next_number h) × ((x : Object) → object_at h k ≡ Some x → class_of_method (method_at p m) ≡ Some x.class) × (0 < k)
 
 -- `this` of the frame that a `new` began
-abbrev pub IsMadeBy : Program → HeapContents → Action → Value → Type 0
-IsMadeBy p h (actions.New m d n) v = IsMade p h m v
-IsMadeBy p h a v = Unit {0}
+abbrev pub IsMadeByNew : Program → HeapContents → Action → Value → Type 0
+IsMadeByNew p h (actions.New m d n) v = IsMade p h m v
+IsMadeByNew p h a v = Unit {0}
 
 -- the object that a `new` makes is made after the argument that it is to be an alias of
 abbrev pub IsMadeAfter : Program → Locals → Action → Value → Type 0
@@ -149,7 +149,7 @@ pub record WaitsFor (p : Program) (h : HeapContents) (caller fr : Frame) : Type 
   pub itself : RunsItself step.action named fr.method
   pub kind : constructs (method_at p fr.method) ≡ constructs (method_at p named)
   pub on_same : RunsOnSame step.action caller.locals.this fr.locals.this
-  pub makes : IsMadeBy p h step.action fr.locals.this
+  pub makes : IsMadeByNew p h step.action fr.locals.this
   pub after : IsMadeAfter p caller.locals step.action fr.locals.this
 
 -- each of these frames waits for the one above it, and the last one gives no result and makes no object

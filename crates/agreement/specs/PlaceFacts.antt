@@ -12,21 +12,21 @@ use Rattle.program_model.specs.declared.program.Field.{Field}
 use Rattle.program_model.specs.declared.program.Method.{Method}
 use Rattle.program_model.specs.declared.program.ParamSig.{ParamSig}
 use Rattle.program_model.specs.declared.program.Program.{Program}
-use Rattle.program_model.specs.Lookups.{field_at, method_at}
+use Rattle.program_model.specs.Lookups.{method_at}
 use Rattle.program_model.specs.Overrides.{is_library}
 use Rattle.ownership_rules.specs.Bodies.{alias_in, constructs, reset_in}
 use Rattle.ownership_rules.specs.MustCallSets.{Names, fits, fits_type, is_empty, is_heavy_class, must_of, must_of_optional, no_names}
 use Rattle.ownership_rules.specs.Signatures.{field_type, is_present}
 use Rattle.java_control.specs.PlaceNumbers.{IsSmall}
 use Rattle.java_control.specs.Owned.{place_of_field}
-use Rattle.java_control.specs.declared.action.Action.{Action}
-use Rattle.java_control.specs.declared.fact.Fact.{Fact}
-use Rattle.java_control.specs.declared.fact.Mode.TheVariants as modes
-use Rattle.java_control.specs.declared.fact.Origin.{Origin}
-use Rattle.java_control.specs.declared.fact.OriginKind.{OriginKind}
-use Rattle.java_control.specs.declared.fact.OriginKind.TheVariants as kinds
-use Rattle.java_control.specs.declared.place.Place.{Place}
-use Rattle.java_control.specs.declared.place.Place.TheVariants as place
+use Rattle.control_actions.specs.declared.action.Action.{Action}
+use Rattle.control_actions.specs.declared.fact.Fact.{Fact}
+use Rattle.control_actions.specs.declared.fact.Mode.TheVariants as modes
+use Rattle.control_actions.specs.declared.fact.Origin.{Origin}
+use Rattle.control_actions.specs.declared.fact.OriginKind.{OriginKind}
+use Rattle.control_actions.specs.declared.fact.OriginKind.TheVariants as kinds
+use Rattle.control_actions.specs.declared.place.Place.{Place}
+use Rattle.control_actions.specs.declared.place.Place.TheVariants as place
 use Rattle.ownership_rules.specs.Callees.{callee}
 use Rattle.ownership_rules.specs.Facts.{PlaceSet, has, is_held, is_own, is_this_origin, need, without}
 use Rattle.place_laws.specs.Paths.{Reach, relation_of}
@@ -37,7 +37,6 @@ use Rattle.ledger_state.specs.declared.entry.Owner.{Owner}
 use Rattle.ledger_state.specs.declared.entry.Owner.TheVariants as owners
 use Rattle.ledger_state.specs.declared.locals.Locals.{Locals}
 use Rattle.ledger_state.specs.declared.object.Object.{Object}
-use Rattle.ledger_state.specs.declared.value.Value.{Value}
 use Rattle.ledger_state.specs.declared.value.Value.TheVariants as values
 use Rattle.place_laws.specs.Obligations.{is_held_by, is_library_owner}
 use Rattle.heap_laws.specs.Places.{owning_field_beside, place_value}
@@ -84,10 +83,6 @@ pub record IsTrueOf (p : Program) (x : Object) (o : Origin) (f : Fact) : Type 0 
   pub bounded : set.is_subset x.must (must_of p x.class) ≡ true
   pub need : set.is_subset x.must (need o f) ≡ true
   pub called : set.is_subset f.called x.called ≡ true
-
--- each of these places of a frame of the method holds object `o`
-abbrev pub AllHold : Program → HeapContents → MethodId → Locals → ℕ → PlaceSet → Type 0
-AllHold p h m l o held = (z : Place) → IsSmall z → has held z ≡ true → root_of h (place_value p h m l z) ≡ Some o
 
 -- the type of the owning field has an obligation
 abbrev pub is_heavy_in : Program → Option FieldId → Bool
@@ -301,8 +296,8 @@ pub record IsOld (p : Program) (h : HeapContents) (frs : List Frame) (fr : Frame
   pub self : (w : ℕ) (y : Object) → fr.locals.this ≡ values.Object w → object_at h w ≡ Some y → IsHeavyObject p y → y.link ≡ None → is_settled p fr frs ≡ true → old w ≡ true
 
 -- The object was old when the frame began, and the call that began it spares it; the end of its way up was not given up, and something is said of it in the fact.
-abbrev pub IsApart : Program → HeapContents → (ℕ → Bool) → List Frame → Frame → ℕ → Owner → Fact → Type 0
-IsApart p h old frs fr o owner f = (old o ≡ true) × IsSpared p h frs o × IsAnswered h o × (is_idle p frs fr f ≡ false)
+abbrev pub IsApart : Program → HeapContents → (ℕ → Bool) → List Frame → Frame → ℕ → Fact → Type 0
+IsApart p h old frs fr o f = (old o ≡ true) × IsSpared p h frs o × IsAnswered h o × (is_idle p frs fr f ≡ false)
 
 -- an owning field of `this` owns the object, and of `this`, its parts and its fields that field's place alone is among these
 abbrev pub IsInField : Program → Frame → PlaceSet → Owner → Type 0
@@ -345,8 +340,8 @@ pub record Covers (p : Program) (h : HeapContents) (away anew : Bool) (old : ℕ
   pub makes : constructs (method_at p fr.method) ≡ true → is_this_origin origin.kind ≡ true → x.finished ≡ false
   pub begun : fact.mode ≡ modes.Lent → (constructs (method_at p fr.method) && is_this_origin origin.kind) ≡ false → HasOwningField p x.class → x.finished ≡ false
       → (away ≡ false) × IsLentFrom p h frs o x.owner × (constructs (method_at p fr.method) ≡ true → fr.locals.this ≡ values.Object o → ⊥)
-  pub unrenewed : x.finished ≡ true → tells_calls p fr.method origin fact ≡ true → IsApart p h old frs fr o x.owner fact → anew ≡ false
-  pub known : x.finished ≡ true → tells_calls p fr.method origin fact ≡ true → IsApart p h old frs fr o x.owner fact → anew ≡ false
+  pub unrenewed : x.finished ≡ true → tells_calls p fr.method origin fact ≡ true → IsApart p h old frs fr o fact → anew ≡ false
+  pub known : x.finished ≡ true → tells_calls p fr.method origin fact ≡ true → IsApart p h old frs fr o fact → anew ≡ false
       → set.is_subset fact.called (set.union (asked_of p (method_at p fr.method) origin.kind) x.called) ≡ true
   pub fields : (k : ℕ) → k < 16 → is_heavy_class p origin.class ≡ true → has fact.places (place.Field k) ≡ true → fits_field p fr.method k origin.class ≡ true
   pub held : (k : ℕ) → k < 16 → has fact.places (place.Field k) ≡ true → is_heavy_field p fr.method (place.Field k) ≡ true

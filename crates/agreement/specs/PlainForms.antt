@@ -23,21 +23,20 @@ use Rattle.program_model.specs.Lookups.{body_at, field_at, method_at}
 use Rattle.program_model.specs.Overrides.{are_types, is_abstract, is_library}
 use Rattle.program_model.specs.SuperTests.{has_class, is_under}
 use Rattle.program_model.specs.Validity.{is_class_type}
-use Rattle.ownership_rules.specs.Bodies.{alias_in, constructs, has_field_place, is_alias_constructor, is_class_of, is_constructor, is_constructor_kind, method_of, reset_in}
+use Rattle.ownership_rules.specs.Bodies.{alias_in, constructs, has_field_place, is_class_of, is_constructor, is_constructor_kind, reset_in}
 use Rattle.ownership_rules.specs.MustCallSets.{Names, is_empty, must_of, must_of_optional, must_of_type}
 use Rattle.must_call_sets.specs.OwningCases.{gives_as_alias}
 use Rattle.ownership_rules.specs.OverrideCases.{has_other_owning, has_other_result, has_wider_result}
 use Rattle.ownership_rules.specs.Signatures.{is_at, promised_names}
-use Rattle.java_control.specs.Calls.{called_method, is_reset_of_this}
+use Rattle.java_control.specs.Calls.{called_method}
 use Rattle.java_control.specs.Owned.{declares_field, is_owning}
 use Rattle.java_control.specs.Remaining.{Todo}
-use Rattle.java_control.specs.declared.action.Action.{Action}
-use Rattle.java_control.specs.declared.action.Action.TheVariants as actions
-use Rattle.java_control.specs.declared.action.PlainValue.{PlainValue}
-use Rattle.java_control.specs.declared.action.PlainValue.TheVariants as plain
+use Rattle.control_actions.specs.declared.action.Action.{Action}
+use Rattle.control_actions.specs.declared.action.Action.TheVariants as actions
+use Rattle.control_actions.specs.declared.action.PlainValue.{PlainValue}
+use Rattle.control_actions.specs.declared.action.PlainValue.TheVariants as plain
 use Rattle.place_laws.specs.Paths.{Comes, Move, relation_of}
 use Rattle.heap_laws.specs.LedgerCallsCalls.{overriding_in}
-use Rattle.ownership_rules.specs.Callees.{callee}
 use Rattle.heap_laws.specs.Results.{is_result_under}
 use Rattle.place_laws.specs.Obligations.{is_library_method}
 use Rattle.place_laws.specs.ClassOperands.{field_type}
@@ -164,7 +163,7 @@ StoresPlainly p m f = (constructs m ≡ true) ⊎ ((reopens m ≡ true) × (is_o
 
 -- Each step that a control of a body can reach has one of the plain forms; owning fields are stored by `=` in bodies of the class that
 -- declares them, and otherwise by `+=` on texts alone; no super constructor is called behind such a store, nor behind a call that creates the obligation of `this` anew; no class with owning fields is the one whose constructor is called so, nor has it another one under it; and
--- objects with owning fields run their own must-call methods. All classes above one of the library are the library's, and so is the class of what a method of it gives. A constructor with an aliased argument calls nothing on `this` that creates its obligation anew.
+-- objects with owning fields run their own must-call methods. All classes above one of the library are the library's, and so is the class of what a method of it gives.
 pub record HasPlainForms (p : Program) : Type 0 where
   pub steps : (b : BodyId) {k : List Todo} (i : ℕ) (t : Move (List Todo)) → Comes (relation_of p b) k
       → slice_get ((relation_of p b).next k) i ≡ Some t → IsPlainAction p t.action
@@ -183,5 +182,3 @@ pub record HasPlainForms (p : Program) : Type 0 where
   pub library : (c d : ClassId) → is_under p c d ≡ true → is_library p c ≡ true → is_library p d ≡ true
   pub given : (m : MethodId) (x : Method) (c : ClassId) → method_at p m ≡ Some x → is_library p x.class ≡ true → x.sig.result ≡ Some (types.Obj c) → is_library p c ≡ true
   pub alone : (c : ClassId) (f : FieldId) (x : Field) → field_at p f ≡ Some x → x.owning ≡ true → is_under p c x.class ≡ true → c ≡ x.class
-  pub aliased : (b : BodyId) {k : List Todo} (i : ℕ) (t : Move (List Todo)) → Comes (relation_of p b) k
-      → slice_get ((relation_of p b).next k) i ≡ Some t → is_alias_constructor p b ≡ true → is_reset_of_this p t.action ≡ false

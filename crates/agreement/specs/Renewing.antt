@@ -14,17 +14,15 @@ use Rattle.ownership_rules.specs.Signatures.{is_position, is_present}
 use Rattle.ownership_rules.specs.Callees.{callee}
 use Rattle.ownership_rules.specs.MustCallSets.{is_heavy_class, no_names}
 use Rattle.java_control.specs.Calls.{is_reset_of_this}
-use Rattle.java_control.specs.declared.action.Action.{Action}
-use Rattle.java_control.specs.declared.fact.Fact.{Fact}
+use Rattle.control_actions.specs.declared.action.Action.{Action}
+use Rattle.control_actions.specs.declared.fact.Fact.{Fact}
 use Rattle.ledger_state.specs.Contents.{HeapContents}
 use Rattle.ledger_state.specs.Heaps.{object_at, root_of, same_root}
 use Rattle.ledger_state.specs.declared.entry.Owner.{Owner}
 use Rattle.ledger_state.specs.declared.entry.Owner.TheVariants as owners
 use Rattle.ledger_state.specs.declared.locals.Locals.{Locals}
 use Rattle.ledger_state.specs.declared.object.Object.{Object}
-use Rattle.ledger_state.specs.declared.value.Value.{Value}
 use Rattle.ledger_state.specs.declared.value.Value.TheVariants as values
-use Rattle.place_laws.specs.Obligations.{is_held_by}
 use Rattle.heap_laws.specs.LedgerCallsCalls.{operand_of}
 use Rattle.ledger_runs.specs.Configuration.{Frame}
 use Rattle.ledger_runs.specs.Choosing.{frame_steps}
@@ -43,16 +41,6 @@ renews p h l a o = renews_at h l a o (reset_in (callee p a))
 -- the call at which the frame waits does so
 abbrev pub is_renewed : Program → HeapContents → Frame → ℕ → Bool
 is_renewed p h fr o = list_any (λ s. renews p h fr.locals s.action o) (frame_steps p fr)
-
--- the call that began a frame, where `frs` are the frames below it, does so
-abbrev pub was_renewed : Program → HeapContents → List Frame → ℕ → Bool
-was_renewed p h [] o = false
-was_renewed p h (fr ∷ frs) o = is_renewed p h fr o
-
--- a field of the object owns what has this owner
-abbrev pub is_field_of : Value → Owner → Bool
-is_field_of (values.Object w) owner = is_held_by owner w
-is_field_of v owner = false
 
 -- What the frame knows of object `o` is read anew: the call at which it waits creates the object's obligation anew. (What a field of `this` owns, where the call creates that of `this` anew,
 -- needs no such reading: nothing is known of it.)

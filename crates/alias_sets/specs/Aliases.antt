@@ -1,12 +1,12 @@
 -- What a call makes of the places that hold an object.
 use Rattle.std.specs.Prelude.{ℕ, ◌+◌, Bool, false, Option, Some, None, if◌then◌else◌}
 use Rattle.program_model.specs.declared.program.Program.{Program}
-use Rattle.java_control.specs.declared.action.Action.{Action}
-use Rattle.java_control.specs.declared.action.Action.TheVariants as actions
-use Rattle.java_control.specs.declared.action.Edge.{Edge}
-use Rattle.java_control.specs.declared.action.Edge.TheVariants as edges
-use Rattle.java_control.specs.declared.place.Place.TheVariants as places
-use Rattle.java_control.specs.Calls.{operand_at, is_reset_of_this}
+use Rattle.control_actions.specs.declared.action.Action.{Action}
+use Rattle.control_actions.specs.declared.action.Action.TheVariants as actions
+use Rattle.control_actions.specs.declared.action.Edge.{Edge}
+use Rattle.control_actions.specs.declared.action.Edge.TheVariants as edges
+use Rattle.control_actions.specs.declared.place.Place.TheVariants as places
+use Rattle.action_effects.specs.Calls.{operand_at, is_reset_of_this}
 use Rattle.obligation_facts.specs.Callees.{callee}
 use Rattle.obligation_facts.specs.Facts.{PlaceSet, has_temp, with_place, without, without_temps, without_parts}
 use Rattle.must_call_sets.specs.Bodies.{alias_in}

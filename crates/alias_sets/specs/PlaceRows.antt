@@ -4,16 +4,16 @@ use Rattle.program_model.specs.declared.kinds.BodyId.{BodyId}
 use Rattle.program_model.specs.declared.program.Program.{Program}
 use Rattle.program_model.specs.declared.tree.Body.{Body}
 use Rattle.program_model.specs.Lookups.{body_at}
-use Rattle.java_control.specs.declared.action.Scope.{Scope}
-use Rattle.java_control.specs.declared.action.Action.{Action}
-use Rattle.java_control.specs.declared.action.Action.TheVariants as actions
-use Rattle.java_control.specs.declared.action.Edge.{Edge}
-use Rattle.java_control.specs.declared.action.Edge.TheVariants as edges
-use Rattle.java_control.specs.declared.place.Place.{Place}
-use Rattle.java_control.specs.declared.place.Place.TheVariants as places
-use Rattle.java_control.specs.Calls.{completion_temp}
-use Rattle.java_control.specs.Sources.{is_null_pointer}
-use Rattle.java_control.specs.Owned.{place_of_field}
+use Rattle.control_actions.specs.declared.action.Scope.{Scope}
+use Rattle.control_actions.specs.declared.action.Action.{Action}
+use Rattle.control_actions.specs.declared.action.Action.TheVariants as actions
+use Rattle.control_actions.specs.declared.action.Edge.{Edge}
+use Rattle.control_actions.specs.declared.action.Edge.TheVariants as edges
+use Rattle.control_actions.specs.declared.place.Place.{Place}
+use Rattle.control_actions.specs.declared.place.Place.TheVariants as places
+use Rattle.action_effects.specs.Calls.{completion_temp}
+use Rattle.action_effects.specs.Sources.{is_null_pointer}
+use Rattle.control_actions.specs.Owned.{place_of_field}
 use Rattle.obligation_facts.specs.Facts.{PlaceSet, has, has_temp, with_place, without, without_temps, without_scope}
 use Rattle.alias_sets.specs.Aliases.{called_places}
 

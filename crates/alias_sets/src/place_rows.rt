@@ -2,12 +2,13 @@
 
 ghost use Rattle.std.specs.Prelude.{◌≡◌, ◌+◌, ◌<◌};
 ghost use Rattle.program_model.specs.Lookups.{body_at};
-ghost use Rattle.java_control.specs.PlaceNumbers.{IsSmall};
+ghost use Rattle.control_actions.specs.PlaceNumbers.{IsSmall};
 ghost use Rattle.obligation_facts.specs.SmallActions.{IsSmallAction, IsSmallScope, IsSmallTemp};
 ghost use Rattle.alias_sets.specs.PlaceRows.{below, cast, copied, dropped, entered, places_after, raised, settled, stored};
 
 use crate::aliases::called_places;
-use java_control::{Action, Edge, Place, Places, Scope, completion_temp, field_place};
+use action_effects::completion_temp;
+use control_actions::{Action, Edge, Place, Places, Scope, field_place};
 use obligation_facts::{has_temp, without_scope, without_temps};
 use program_model::{BodyId, Program};
 

@@ -14,9 +14,9 @@ use Rattle.fact_pool.specs.declared.handle.Handle.{Handle}
 use Rattle.reached_facts.specs.Searched.{IsSearched}
 use Rattle.java_cfg.specs.declared.arc.Arc.{Arc}
 use Rattle.java_cfg.proofs.NumberLemmas.{once_distinct}
-use Rattle.java_control.specs.declared.fact.Fact.{Fact}
-use Rattle.java_control.specs.declared.fact.Origin.{Origin}
-use Rattle.java_control.specs.declared.fact.Rule.{Rule}
+use Rattle.control_actions.specs.declared.fact.Fact.{Fact}
+use Rattle.control_actions.specs.declared.fact.Origin.{Origin}
+use Rattle.control_actions.specs.declared.fact.Rule.{Rule}
 use Rattle.flow_rules.specs.Facts.{Names}
 use Rattle.flow_rules.specs.Paths.{Faulty}
 use Rattle.reached_pairs.specs.declared.visit.Source.{Source as Step}

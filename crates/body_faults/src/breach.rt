@@ -1,6 +1,6 @@
 //! Rules that are broken.
 
-use java_control::Rule;
+use control_actions::Rule;
 use rlc_base::{NameSet, Pos};
 
 /// A rule that is broken at a place, for the objects of an origin.

@@ -18,11 +18,11 @@ ghost use Rattle.body_faults.specs.Breaches.{AreBreaches, Gathers, HasGathered};
 ghost use Rattle.body_faults.specs.Broken.{all_broken, broken_by, broken_from, broken_step, same_breach};
 
 use crate::breach::{Breach, Breached};
+use control_actions::{Fact, Origin, Outcome};
 use fact_pool::{Pool, Region};
 use flow_rules::flow;
 use indexmap::IndexMap;
 use java_cfg::Arc;
-use java_control::{Fact, Origin, Outcome};
 use program_model::{BodyId, Program};
 use reached_facts::BodyFlow;
 use reached_pairs::{Source, Visits};

@@ -12,8 +12,8 @@ use Rattle.reached_pairs.specs.Searches.{AreOnce, IsAt, Stands}
 use Rattle.reached_pairs.proofs.ListLaws.{at_map, at_push, at_within, map_at, once_push, stands_append, stands_split}
 use Rattle.reached_pairs.proofs.VisitLaws.{lacks_stands}
 use Rattle.java_cfg.specs.declared.arc.Arc.{Arc}
-use Rattle.java_control.specs.declared.fact.Origin.{Origin}
-use Rattle.java_control.specs.contracts.fact.OriginEq.TheImpl.Laws as origin_laws
+use Rattle.control_actions.specs.declared.fact.Origin.{Origin}
+use Rattle.control_actions.specs.contracts.fact.OriginEq.TheImpl.Laws as origin_laws
 use Rattle.flow_rules.specs.Births.{Birth, births_at_entry}
 use Rattle.flow_rules.specs.Paths.{entered, born}
 use Rattle.body_origins.specs.Nodes.{AreNodes, move_of, relation_in, row_in}

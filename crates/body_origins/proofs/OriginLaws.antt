@@ -14,7 +14,7 @@ use Rattle.rlc_base.specs.declared.faults.Stop.TheVariants as stops
 use Rattle.rlc_base.specs.declared.place.Pos.{Pos}
 use Rattle.reached_pairs.specs.Searches.{IsAt}
 use Rattle.reached_pairs.proofs.ListLaws.{append_none, map_append}
-use Rattle.java_control.specs.declared.fact.Origin.{Origin}
+use Rattle.control_actions.specs.declared.fact.Origin.{Origin}
 use Rattle.flow_rules.specs.Births.{Birth}
 use Rattle.body_origins.specs.Origins.{HasManyOrigins, IsOriginCause, IsOriginsCause, origins_in, same_origin}
 use Rattle.body_origins.specs.Pairs.{most_pairs}

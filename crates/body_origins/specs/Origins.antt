@@ -9,9 +9,9 @@ use Rattle.rlc_base.specs.declared.faults.Stop.{Stop}
 use Rattle.rlc_base.specs.declared.faults.Stop.TheVariants as stops
 use Rattle.rlc_base.specs.declared.place.Pos.{Pos}
 use Rattle.reached_pairs.specs.Searches.{IsAt}
-use Rattle.java_control.specs.declared.fact.Fact.{Fact}
-use Rattle.java_control.specs.declared.fact.Origin.{Origin}
-use Rattle.java_control.specs.contracts.fact.OriginPartialEq.TheImpl as origin_eq
+use Rattle.control_actions.specs.declared.fact.Fact.{Fact}
+use Rattle.control_actions.specs.declared.fact.Origin.{Origin}
+use Rattle.control_actions.specs.contracts.fact.OriginPartialEq.TheImpl as origin_eq
 use Rattle.java_cfg.specs.declared.arc.Arc.{Arc}
 use Rattle.java_cfg.specs.Limits.{refusal}
 use Rattle.flow_rules.specs.Births.{Birth, births_at_entry, births_of_step}

@@ -9,8 +9,8 @@ use Rattle.program_model.specs.declared.program.Program.{Program}
 use Rattle.reached_pairs.specs.Searches.{IsAt}
 use Rattle.java_cfg.specs.Limits.{refusal}
 use Rattle.java_cfg.specs.Reach.{AreOnce}
-use Rattle.java_control.specs.declared.fact.Fact.{Fact}
-use Rattle.java_control.specs.declared.fact.Origin.{Origin}
+use Rattle.control_actions.specs.declared.fact.Fact.{Fact}
+use Rattle.control_actions.specs.declared.fact.Origin.{Origin}
 use Rattle.flow_rules.specs.Paths.{Reach, Relation}
 
 -- a control, and a fact of an origin there

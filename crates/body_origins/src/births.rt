@@ -6,9 +6,9 @@ ghost use Rattle.flow_rules.specs.Births.{births_at_entry};
 ghost use Rattle.flow_rules.specs.Room.{HasRoom};
 ghost use Rattle.body_origins.specs.Origins.{arc_births};
 
+use control_actions::{Fact, Origin};
 use flow_rules::{births, entry_births};
 use java_cfg::Arc;
-use java_control::{Fact, Origin};
 use program_model::{BodyId, Program};
 use std::alloc::{AllocError, Global};
 

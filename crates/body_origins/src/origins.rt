@@ -13,9 +13,9 @@ ghost use Rattle.body_origins.specs.Origins.{IsOriginCause, IsOriginsCause, arc_
 ghost use Rattle.body_origins.specs.Pairs.{IsPairsCause};
 
 use crate::births::{all_entry_births, all_step_births};
+use control_actions::{Fact, Origin};
 use indexmap::IndexSet;
 use java_cfg::{Arc, Graph};
-use java_control::{Fact, Origin};
 use program_model::{BodyId, Program};
 use rlc_base::{Code, Pos, Refusal, Stop};
 use std::alloc::Global;

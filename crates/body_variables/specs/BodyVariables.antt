@@ -8,7 +8,7 @@ use Rattle.java_syntax.specs.declared.names.Name.{Name}
 use Rattle.java_syntax.specs.AnnotationTrees.{ModifierTree, modifier_of}
 use Rattle.java_syntax.specs.StatementTrees.{BlockTree, Braces, CatchTrees, ForStartTree, LocalTree, MaybeBlock, MaybeStmt, ResourceTree, StmtTree, StmtTrees, no_catch, and_catch, no_else, some_else, no_finally, some_finally, no_statement, and_statement}
 use Rattle.java_syntax.specs.StatementTrees as syntax
-use Rattle.java_statement_rules.specs.JavaExpressionRulesNames.{cast_type}
+use Rattle.java_statement_rules.specs.WrittenTypes.{cast_type}
 use Rattle.java_statement_rules.specs.Surroundings.{Surroundings}
 use Rattle.java_statement_rules.specs.CatchClauses.{parameter_type}
 use Rattle.java_statement_rules.specs.Resources.{class_type}

@@ -5,8 +5,8 @@ use Rattle.program_model.specs.declared.program.Program.{Program}
 use Rattle.breadth_first.specs.Searches.{AreOnce}
 use Rattle.java_cfg.specs.Graphs.{IsGraphOf}
 use Rattle.java_cfg.specs.declared.arc.Arc.{Arc}
-use Rattle.java_control.specs.Remaining.{Todo}
-use Rattle.java_control.specs.declared.fact.Origin.{Origin}
+use Rattle.control_actions.specs.Remaining.{Todo}
+use Rattle.control_actions.specs.declared.fact.Origin.{Origin}
 use Rattle.body_origins.specs.Nodes.{FitsRows}
 use Rattle.body_origins.specs.Origins.{births_in, origins_in, origins_of}
 use Rattle.body_origins.proofs.BornOrigins.{origins_once}

@@ -12,10 +12,10 @@ ghost use Rattle.reached_facts.specs.Reading.{AreReachedPairs};
 ghost use Rattle.reached_facts.specs.Steps.{Begins, IsReady, Leads};
 
 use body_origins::body_origins;
+use control_actions::{Fact, Origin};
 use fact_pool::{Pool, Region};
 use indexmap::IndexSet;
 use java_cfg::Graph;
-use java_control::{Fact, Origin};
 use program_model::{BodyId, Program};
 use reached_facts::{BodyFlow, reached_facts};
 use reached_pairs::Visits;

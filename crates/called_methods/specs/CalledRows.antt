@@ -9,15 +9,15 @@ use Rattle.program_model.specs.declared.kinds.Target.TheVariants as promised
 use Rattle.program_model.specs.declared.program.Program.{Program}
 use Rattle.program_model.specs.declared.program.Method.{Method}
 use Rattle.program_model.specs.declared.program.Promise.{Promise}
-use Rattle.java_control.specs.declared.action.Action.{Action}
-use Rattle.java_control.specs.declared.action.Action.TheVariants as actions
-use Rattle.java_control.specs.declared.action.Edge.{Edge}
-use Rattle.java_control.specs.declared.action.Edge.TheVariants as edges
-use Rattle.java_control.specs.declared.fact.Fact.{Fact}
-use Rattle.java_control.specs.declared.place.Place.TheVariants as places
-use Rattle.java_control.specs.Calls.{is_reset_of_this}
+use Rattle.control_actions.specs.declared.action.Action.{Action}
+use Rattle.control_actions.specs.declared.action.Action.TheVariants as actions
+use Rattle.control_actions.specs.declared.action.Edge.{Edge}
+use Rattle.control_actions.specs.declared.action.Edge.TheVariants as edges
+use Rattle.control_actions.specs.declared.fact.Fact.{Fact}
+use Rattle.control_actions.specs.declared.place.Place.TheVariants as places
+use Rattle.action_effects.specs.Calls.{is_reset_of_this}
 use Rattle.obligation_facts.specs.Callees.{callee, holds_operand, is_this_target, is_super_target, may_be_null_target}
-use Rattle.java_control.specs.Owned.{place_of_field}
+use Rattle.control_actions.specs.Owned.{place_of_field}
 use Rattle.obligation_facts.specs.Facts.{PlaceSet, Names, has, has_part, is_held}
 use Rattle.must_call_sets.specs.MustCallSets.{no_names}
 use Rattle.must_call_sets.specs.Signatures.{when, names_of_all}

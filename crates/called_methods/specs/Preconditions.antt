@@ -4,8 +4,8 @@ use Rattle.std.specs.FinSet as set
 use Rattle.program_model.specs.declared.program.Program.{Program}
 use Rattle.program_model.specs.declared.program.Method.{Method}
 use Rattle.program_model.specs.declared.program.ParamSig.{ParamSig}
-use Rattle.java_control.specs.declared.action.Action.{Action}
-use Rattle.java_control.specs.declared.fact.Fact.{Fact}
+use Rattle.control_actions.specs.declared.action.Action.{Action}
+use Rattle.control_actions.specs.declared.fact.Fact.{Fact}
 use Rattle.obligation_facts.specs.Callees.{callee, holds_operand}
 use Rattle.obligation_facts.specs.Facts.{PlaceSet, Names}
 use Rattle.must_call_sets.specs.MustCallSets.{no_names, is_empty}

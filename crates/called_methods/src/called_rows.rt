@@ -2,8 +2,8 @@
 
 ghost use Rattle.std.specs.Prelude.{◌≡◌, ◌<◌, IfSome, true};
 ghost use Rattle.program_model.specs.declared.kinds.FieldId.{FieldId};
-ghost use Rattle.java_control.specs.PlaceNumbers.{IsSmall};
-ghost use Rattle.java_control.specs.Owned.{place_of_field};
+ghost use Rattle.control_actions.specs.PlaceNumbers.{IsSmall};
+ghost use Rattle.control_actions.specs.Owned.{place_of_field};
 ghost use Rattle.obligation_facts.specs.SmallActions.{IsSmallAction};
 ghost use Rattle.obligation_facts.specs.Callees.{callee};
 ghost use Rattle.must_call_sets.specs.Bodies.{has_field_place};
@@ -11,7 +11,8 @@ ghost use Rattle.must_call_sets.specs.Signatures.{when};
 ghost use Rattle.must_call_sets.specs.WellFormed.{HasSmallInterests};
 ghost use Rattle.called_methods.specs.CalledRows.{all_names, called_after, called_at_call, called_by, called_on_null, holds_field, holds_receiver, holds_target, interest_in, is_emptied, promised_at, promises_at, with_name};
 
-use java_control::{Action, Edge, Fact, Place, Places, field_place, is_reset_of_this};
+use action_effects::is_reset_of_this;
+use control_actions::{Action, Edge, Fact, Place, Places, field_place};
 use must_call_sets::has_field_place;
 use obligation_facts::{
     callee, has_part, holds_operand, is_held, is_super_target, is_this_target, may_be_null_target,

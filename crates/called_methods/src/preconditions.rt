@@ -6,7 +6,7 @@ ghost use Rattle.obligation_facts.specs.Callees.{callee};
 ghost use Rattle.called_methods.specs.Preconditions.{asked_from, parameters_in, precondition_missing, some_names};
 
 use crate::called_rows::when;
-use java_control::{Action, Fact, Places};
+use control_actions::{Action, Fact, Places};
 use obligation_facts::{callee, holds_argument};
 use program_model::{ParamSig, Program};
 use rlc_base::NameSet;

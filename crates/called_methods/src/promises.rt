@@ -3,14 +3,14 @@
 
 ghost use Rattle.std.specs.Prelude.{◌≡◌, true};
 ghost use Rattle.program_model.specs.declared.kinds.FieldId.{FieldId};
-ghost use Rattle.java_control.specs.PlaceNumbers.{IsSmall};
-ghost use Rattle.java_control.specs.Owned.{place_of_field};
+ghost use Rattle.control_actions.specs.PlaceNumbers.{IsSmall};
+ghost use Rattle.control_actions.specs.Owned.{place_of_field};
 ghost use Rattle.must_call_sets.specs.Bodies.{has_field_place, method_of, promises_in, throwing_promises_in};
 ghost use Rattle.called_methods.specs.Promises.{broken_promise, is_of_held_field, is_of_origin, promised_at_end, promised_by_end, promised_by_throw, promised_on_both, promised_on_fields, promised_on_position};
 
 use crate::called_rows::{holds_field, when};
 use crate::preconditions::some_names;
-use java_control::{Action, Completion, Fact, Origin, OriginKind, Places};
+use control_actions::{Action, Completion, Fact, Origin, OriginKind, Places};
 use must_call_sets::{is_finalizer, method_of};
 use obligation_facts::is_origin_at;
 use program_model::{BodyId, Program, Promise, Target};

@@ -12,10 +12,10 @@ use Rattle.program_model.specs.Lookups.{method_at}
 use Rattle.must_call_sets.specs.Bodies.{constructs, is_class_of, is_constructor_kind}
 use Rattle.java_control.specs.Calls.{called_method}
 use Rattle.java_control.specs.Control.{Step}
-use Rattle.java_control.specs.declared.action.Action.{Action}
-use Rattle.java_control.specs.declared.action.Action.TheVariants as actions
-use Rattle.java_control.specs.declared.action.TargetForm.{TargetForm}
-use Rattle.java_control.specs.declared.action.TargetForm.TheVariants as forms
+use Rattle.control_actions.specs.declared.action.Action.{Action}
+use Rattle.control_actions.specs.declared.action.Action.TheVariants as actions
+use Rattle.control_actions.specs.declared.action.TargetForm.{TargetForm}
+use Rattle.control_actions.specs.declared.action.TargetForm.TheVariants as forms
 use Rattle.covering_laws.specs.Accept.{Accept}
 use Rattle.covering_laws.specs.Paths.{move_of}
 use Rattle.ledger_state.specs.Classes.{class_in, is_under_class}
@@ -86,9 +86,6 @@ module _ (p : Program) (h : HeapContents) (arrays : List ArrayObject) where
   pub target_is_under : (n : Method) (form : TargetForm) (w : ℕ) (x : Object) → is_chosen_by_class form ≡ true → object_at h w ≡ Some x → fits_target p h arrays (Some n) form (values.Object w) ≡ true
       → is_under p x.class n.class ≡ true
   target_is_under n form w x chosen at fits = ap (λ (c : Option ClassId). is_under_class p c n.class) (sym (ap class_in at)) ∙ is_target (Some n) form (values.Object w) chosen fits
-
-super_runs : (p : Program) (h : HeapContents) (l : Locals) (m : MethodId) (d n : ℕ) → running p h l (actions.Super m d n) m ≡ m
-super_runs p h l m d n = refl
 
 module _ (p : Program) (ac : Accept p) (forms' : HasPlainForms p) (h : HeapContents) (arrays : List ArrayObject) (fr : Frame) (frs : List Frame) (st : Stands p fr)
     (in' : All (λ (x : Frame). LocalsInRange h x.locals) (fr ∷ frs)) (named runs : MethodId) (a : Action) (next : IsStartMove p h arrays fr.locals (frame_steps p fr) named runs a) where

@@ -22,7 +22,7 @@ use Rattle.must_call_sets.specs.Signatures.{is_position, is_present}
 use Rattle.must_call_sets.specs.MustCallSets.{is_heavy_class, must_of, must_of_type}
 use Rattle.java_control.specs.Control.{Step}
 use Rattle.java_control.specs.Owned.{is_owning, is_owning_field}
-use Rattle.java_control.specs.declared.action.Action.TheVariants as actions
+use Rattle.control_actions.specs.declared.action.Action.TheVariants as actions
 use Rattle.covering_laws.specs.Accept.{Accept}
 use Rattle.covering_laws.specs.Paths.{move_of}
 use Rattle.ledger_state.specs.Contents.{HeapContents}

@@ -29,8 +29,8 @@ use Rattle.program_model.proofs.HierarchyLaws.{is_under_law}
 use Rattle.java_control.specs.Calls.{called_method}
 use Rattle.java_control.specs.Control.{Step}
 use Rattle.java_control.specs.Owned.{is_owning_field}
-use Rattle.java_control.specs.declared.action.Action.TheVariants as actions
-use Rattle.java_control.specs.declared.action.Completion.{Completion}
+use Rattle.control_actions.specs.declared.action.Action.TheVariants as actions
+use Rattle.control_actions.specs.declared.action.Completion.{Completion}
 use Rattle.covering_laws.specs.Accept.{Accept}
 use Rattle.ledger_state.specs.Classes.{class_in}
 use Rattle.ledger_state.specs.Contents.{HeapContents}

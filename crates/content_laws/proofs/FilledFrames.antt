@@ -12,7 +12,7 @@ use Rattle.program_model.specs.Lookups.{field_at, method_at}
 use Rattle.must_call_sets.specs.Bodies.{constructs, is_class_of, is_field_in, method_in, method_of}
 use Rattle.java_control.specs.Calls.{is_reset_of_this}
 use Rattle.java_control.specs.Control.{Step}
-use Rattle.java_control.specs.declared.action.Action.{Action}
+use Rattle.control_actions.specs.declared.action.Action.{Action}
 use Rattle.covering_laws.specs.Paths.{move_of}
 use Rattle.covering_laws.specs.Accept.{Accept}
 use Rattle.ledger_state.specs.Contents.{HeapContents}

@@ -36,7 +36,7 @@ use Rattle.ledger_state.specs.declared.value.Value.{Value}
 use Rattle.ledger_state.specs.declared.value.Value.TheVariants as values
 use Rattle.ledger_obligations.specs.declared.note.Note.{Note}
 use Rattle.ledger_obligations.specs.Obligations.{all_notes, is_library_owner, is_unmet, lose, lost_object, name_of, noted, noted_object, own_promises}
-use Rattle.java_control.specs.declared.action.Action.{Action}
+use Rattle.control_actions.specs.declared.action.Action.{Action}
 use Rattle.ledger_state.specs.declared.locals.Locals.{Locals}
 use Rattle.covering_laws.specs.Configuration.{Frame}
 use Rattle.covering_laws.specs.PlainForms.{run_by}

@@ -1,14 +1,14 @@
 -- The heap after each kind of step, as it goes on for what owning fields hold and own.
 use Rattle.std.specs.Prelude.{◌<◌}
-use Rattle.std.proofs.Common.{◌≡◌, ◌⊎◌, ℕ, Bool, true, false, true≢false, Option, Some, None, List, [], ◌∷◌, refl, sym, ap, ◌∙◌, subst, if◌then◌else◌}
+use Rattle.std.proofs.Common.{◌≡◌, ℕ, Bool, true, false, Option, Some, None, List, [], ◌∷◌, refl, sym, ap, subst, if◌then◌else◌}
 use Rattle.rlc_base.specs.declared.name_id.NameId.{NameId}
 use Rattle.program_model.specs.declared.kinds.ClassId.{ClassId}
 use Rattle.program_model.specs.declared.kinds.FieldId.{FieldId}
 use Rattle.program_model.specs.declared.program.Method.{Method}
 use Rattle.program_model.specs.declared.program.Program.{Program}
 use Rattle.must_call_sets.specs.MustCallSets.{must_of}
-use Rattle.java_control.specs.declared.action.Action.{Action}
-use Rattle.java_control.specs.declared.action.Action.TheVariants as actions
+use Rattle.control_actions.specs.declared.action.Action.{Action}
+use Rattle.control_actions.specs.declared.action.Action.TheVariants as actions
 use Rattle.covering_laws.specs.Outcomes.{IsCallRow}
 use Rattle.stub_conduct.specs.declared.choice.Conduct.{Conduct}
 use Rattle.stub_conduct.specs.declared.choice.Conduct.TheVariants as conducts
@@ -20,14 +20,13 @@ use Rattle.ledger_state.specs.declared.object.Link.{Link}
 use Rattle.ledger_state.specs.declared.object.Object.{Object}
 use Rattle.ledger_state.specs.declared.value.Value.{Value}
 use Rattle.ledger_obligations.specs.Obligations.{alias_born, finished, first_set, lose, reached, reset_in, reset_roots}
-use Rattle.ledger_steps.specs.LedgerCallsCalls.{alias_target, interest_in, is_alias, object_by, operand_of, position_of, receiver_note, reset_position, reset_target}
+use Rattle.ledger_steps.specs.LedgerCallsCalls.{alias_target, interest_in, is_alias, object_by, position_of, receiver_note, reset_position, reset_target}
 use Rattle.ledger_steps.specs.Conducts.{first_in, fresh_born, library_birth, library_notes, owning_in, positions, promises_by, result_owner}
 use Rattle.ledger_steps.specs.CallSteps.{began_heap, library_called, library_heap, library_made, library_reset}
 use Rattle.ledger_steps.specs.Ends.{frame_gone, returned_called, returned_reset}
 use Rattle.ledger_steps.specs.InnerSteps.{heap_stored, store_of, store_unless, thrown_heap}
 use Rattle.ledger_steps.specs.declared.store.Store.{Store}
 use Rattle.covering_laws.specs.Heaps.{HasEarlierLinks}
-use Rattle.covering_laws.proofs.HeapLaws.{links_stay-noted}
 use Rattle.content_laws.proofs.Goes.{changed_roots, goes_further, leaves_goes, leaves_roots, lose_goes, made_goes, noted_goes, self_goes}
 use Rattle.content_laws.proofs.Leaves.{Leaves, append_leaves, began_leaves, each_leaves, gone_leaves, library_made_leaves, stays_self}
 use Rattle.content_laws.proofs.Noted.{kept_notes, receiver_notes}
@@ -149,9 +148,6 @@ library_goes p l a named d i held h no_reset small links =
 
 -- ---- calls that end, before a `new` finishes its object
 
-pub gone_links : (p : Program) (i : ℕ) (self : Value) (runs : Option Method) (v : Value) (e : Option ClassId) (h : HeapContents) → HasEarlierLinks h → HasEarlierLinks (frame_gone p i self runs v e h)
-gone_links p i self runs v e h links = (gone_leaves p i self runs v e h).links links
-
 -- from when the frame has gone
 pub after_goes : (p : Program) (l : Locals) (a : Action) (named : Option Method) (g : HeapContents) → reset_position named ≡ None → ((n : NameId) → interest_in named ≡ Some n → n.0 < 128)
     → Goes p g (returned_reset p l a named g) (IsNotedBy l a named)
@@ -159,14 +155,6 @@ after_goes p l a named g no_reset small =
     let c = returned_called p l a named g in
     goes_further p g c (returned_reset p l a named g) (IsNotedBy l a named) (noted_goes p g l a named (receiver_note l a named) (receiver_notes l a named small))
     (none_is_reset p c _ (IsNotedBy l a named) (no_target _ named c no_reset))
-
--- the links when the call has been noted, and nothing was reset
-pub reset_links : (p : Program) (l : Locals) (a : Action) (named : Option Method) (g : HeapContents) → reset_position named ≡ None → HasEarlierLinks g → HasEarlierLinks (returned_reset p l a named g)
-reset_links p l a named g no_reset links = go (reached (returned_called p l a named g) (reset_target (operand_of l a) named)) (no_target (operand_of l a) named (returned_called p l a named g) no_reset)
-  where
-    go : (roots : List ℕ) → roots ≡ [] → HasEarlierLinks (reset_roots p roots (returned_called p l a named g))
-    go [] none = (none_leaves p (returned_called p l a named g)).links (links_stay-noted p (receiver_note l a named) g links)
-    go (r ∷ rs) none = absurd (let never : ◌≡◌ {A = List ℕ} (r ∷ rs) [] = none in cc)
 
 pub end_goes : (p : Program) (i : ℕ) (self : Value) (l : Locals) (a : Action) (runs named : Option Method) (v : Value) (e : Option ClassId) (h : HeapContents) → reset_position named ≡ None
     → ((n : NameId) → interest_in named ≡ Some n → n.0 < 128) → HasEarlierLinks h → Goes p h (returned_reset p l a named (frame_gone p i self runs v e h)) (IsNotedBy l a named)

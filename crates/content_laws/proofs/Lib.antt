@@ -82,7 +82,6 @@ pub use Rattle.covering_laws.proofs.ArgumentBegun
 pub use Rattle.covering_laws.proofs.GivenArguments
 pub use Rattle.covering_laws.proofs.WaitingTargets
 pub use Rattle.covering_laws.proofs.EndOwners
-pub use Rattle.covering_laws.proofs.EndTargets
 pub use Rattle.covering_laws.proofs.Owners
 pub use Rattle.covering_laws.proofs.Renewed
 pub use Rattle.covering_laws.proofs.RenewedOperands
@@ -159,4 +158,3 @@ pub use Rattle.covering_laws.proofs.ThisOperands
 pub use Rattle.covering_laws.proofs.StoreSteps
 pub use Rattle.covering_laws.proofs.StoringThis
 pub use Rattle.covering_laws.proofs.UnlinkedThis
-pub use Rattle.covering_laws.proofs.AliasedResets

@@ -13,8 +13,8 @@ use Rattle.program_model.specs.SuperTests.{is_under}
 use Rattle.must_call_sets.specs.MustCallSets.{must_of}
 use Rattle.java_control.specs.Calls.{called_method}
 use Rattle.java_control.specs.Control.{Step}
-use Rattle.java_control.specs.declared.action.Action.{Action}
-use Rattle.java_control.specs.declared.action.Action.TheVariants as actions
+use Rattle.control_actions.specs.declared.action.Action.{Action}
+use Rattle.control_actions.specs.declared.action.Action.TheVariants as actions
 use Rattle.stub_conduct.specs.declared.choice.Conduct.{Conduct}
 use Rattle.ledger_state.specs.Classes.{class_in, runtime_class}
 use Rattle.ledger_state.specs.Contents.{HeapContents}

@@ -25,9 +25,9 @@ use Rattle.java_control.specs.Owned.{is_owning_field}
 use Rattle.covering_laws.specs.Ends.{is_throw}
 use Rattle.java_control.specs.Calls.{called_method}
 use Rattle.java_control.specs.Control.{Step}
-use Rattle.java_control.specs.declared.action.Action.{Action}
-use Rattle.java_control.specs.declared.action.Action.TheVariants as actions
-use Rattle.java_control.specs.declared.action.Completion.{Completion}
+use Rattle.control_actions.specs.declared.action.Action.{Action}
+use Rattle.control_actions.specs.declared.action.Action.TheVariants as actions
+use Rattle.control_actions.specs.declared.action.Completion.{Completion}
 use Rattle.covering_laws.specs.Accept.{Accept}
 use Rattle.covering_laws.specs.Paths.{move_of}
 use Rattle.covering_laws.specs.Outcomes.{IsCallRow}
@@ -62,7 +62,7 @@ use Rattle.covering_laws.proofs.Returned.{gone_unowned}
 use Rattle.covering_laws.specs.Arguments.{HasArguments}
 use Rattle.covering_laws.proofs.Constructors.{spoken}
 use Rattle.covering_laws.proofs.KeptArguments.{field_holds}
-use Rattle.covering_laws.specs.Agreement.{Agrees, AllStand, IsMade, IsMadeAfter, IsMadeBy, RunsItself, WaitsFor}
+use Rattle.covering_laws.specs.Agreement.{Agrees, AllStand, IsMade, IsMadeAfter, IsMadeByNew, RunsItself, WaitsFor}
 use Rattle.covering_laws.specs.PlainForms.{HasPlainForms, IsPlainCall, calls_constructor}
 use Rattle.covering_laws.specs.Nexts.{IsBack, IsBackStep}
 use Rattle.covering_laws.proofs.Ready.{plain_call, plain_step, step_here, step_there}
@@ -495,7 +495,7 @@ module _ (p : Program) (ac : Accept p) (forms' : HasPlainForms p) (c d : Config)
         -- the object is of the class of the constructor, which has an obligation
         class_is : object.0.class ≡ running.0.class
         class_is =
-            let made' : IsMade p h m fr.locals.this = subst (λ (b : Action). IsMadeBy p h b fr.locals.this) it waits.makes in
+            let made' : IsMade p h m fr.locals.this = subst (λ (b : Action). IsMadeByNew p h b fr.locals.this) it waits.makes in
             let x = made_before w this is_made in
             let number : made'.0 ≡ w = (let both : values.Object made'.0 ≡ values.Object w = sym made'.1 ∙ this in (let one : made'.0 ≡ w = cc in one)) in
             let one : m ≡ waits.named = (let both : Some m ≡ Some waits.named = sym (ap called_method it) ∙ waits.calls in (let same' : m ≡ waits.named = cc in same')) in
@@ -651,7 +651,7 @@ module _ (p : Program) (ac : Accept p) (forms' : HasPlainForms p) (c d : Config)
       ]
 
     -- the heap when the call has ended
-    ended_then : (x : Option ClassId) → e ≡ x → (a : Action) → waits.step.action ≡ a → IsMadeBy p h a fr.locals.this
+    ended_then : (x : Option ClassId) → e ≡ x → (a : Action) → waits.step.action ≡ a → IsMadeByNew p h a fr.locals.this
         → HasEarlierLinks (program_birth p position a plain (number_of fr.locals.this) (alias_target (operand_of caller.locals a) plain) x reset)
         → Then (program_birth p position a plain (number_of fr.locals.this) (alias_target (operand_of caller.locals a) plain) x reset)
     ended_then (Some x) thrown a it makes now = as_it_is (inr (x, thrown))

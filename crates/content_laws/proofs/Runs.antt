@@ -9,8 +9,8 @@ use Rattle.program_model.specs.declared.program.Program.{Program}
 use Rattle.program_model.specs.Lookups.{method_at}
 use Rattle.must_call_sets.specs.Bodies.{constructs}
 use Rattle.java_control.specs.Control.{Step}
-use Rattle.java_control.specs.declared.action.Action.TheVariants as actions
-use Rattle.java_control.specs.declared.action.Completion.{Completion}
+use Rattle.control_actions.specs.declared.action.Action.TheVariants as actions
+use Rattle.control_actions.specs.declared.action.Completion.{Completion}
 use Rattle.covering_laws.specs.Accept.{Accept}
 use Rattle.stub_conduct.specs.declared.choice.Choices.{Choices}
 use Rattle.ledger_state.specs.Contents.{HeapContents}

@@ -2,7 +2,7 @@
 use Rattle.covering_laws.proofs.OlderHolders.{field_of_owner}
 use Rattle.covering_laws.proofs.ResetCovers.{bears_before}
 use Rattle.covering_laws.proofs.Owners.{HoldersStay}
-use Rattle.std.proofs.Common.{◌≡◌, ◌⊎◌, inl, inr, ℕ, true, false, true≢false, Some, None, List, ◌∷◌, sym, ap, ◌∙◌, subst}
+use Rattle.std.proofs.Common.{◌≡◌, inl, inr, ℕ, true, false, true≢false, Some, None, List, ◌∷◌, sym, ap, ◌∙◌, subst}
 use Rattle.std.proofs.lemmas.List.Elements.{All-tail}
 use Rattle.program_model.specs.declared.kinds.ClassId.{ClassId}
 use Rattle.program_model.specs.declared.kinds.FieldId.{FieldId}
@@ -12,7 +12,7 @@ use Rattle.must_call_sets.specs.MustCallSets.{is_heavy_class}
 use Rattle.java_control.specs.Owned.{is_owning, is_owning_field}
 use Rattle.ledger_state.specs.Contents.{HeapContents}
 use Rattle.ledger_state.specs.Fields.{field_value}
-use Rattle.ledger_state.specs.Heaps.{object_at, root, root_of}
+use Rattle.ledger_state.specs.Heaps.{object_at, root_of}
 use Rattle.ledger_state.specs.declared.entry.Owner.{Owner}
 use Rattle.ledger_state.specs.declared.entry.Owner.TheVariants as owners
 use Rattle.ledger_state.specs.declared.object.Object.{Object}

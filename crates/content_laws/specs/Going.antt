@@ -12,7 +12,7 @@ use Rattle.program_model.specs.Overrides.{is_library}
 use Rattle.must_call_sets.specs.MustCallSets.{must_of}
 use Rattle.must_call_sets.specs.Signatures.{is_of_field, promised_names}
 use Rattle.java_control.specs.Owned.{is_owning}
-use Rattle.java_control.specs.declared.action.Action.{Action}
+use Rattle.control_actions.specs.declared.action.Action.{Action}
 use Rattle.ledger_state.specs.Contents.{HeapContents}
 use Rattle.ledger_state.specs.Fields.{field_value}
 use Rattle.ledger_state.specs.Heaps.{object_at, root}

@@ -10,7 +10,7 @@ ghost use Rattle.program_model.specs.declared.program.Method.{Method};
 ghost use Rattle.program_model.specs.declared.program.Program.{Program};
 ghost use Rattle.program_model.specs.Lookups.{method_at};
 ghost use Rattle.must_call_sets.specs.MustCallSets.{is_heavy_class, must_of};
-ghost use Rattle.java_control.specs.declared.action.Action.{Action};
+ghost use Rattle.control_actions.specs.declared.action.Action.{Action};
 ghost use Rattle.stub_conduct.specs.declared.choice.Conduct.{Conduct};
 ghost use Rattle.ledger_state.specs.Contents.{HeapContents};
 ghost use Rattle.ledger_state.specs.Heaps.{change_one, object_at, root};

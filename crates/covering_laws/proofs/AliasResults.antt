@@ -20,19 +20,19 @@ use Rattle.ledger_obligations.specs.MustCallSets.{is_empty, is_heavy_as, is_heav
 use Rattle.ownership_rules.specs.Signatures.{is_present, type_at, type_in}
 use Rattle.java_control.specs.Calls.{completion_temp}
 use Rattle.java_control.specs.Control.{Step}
-use Rattle.java_control.specs.declared.action.Action.{Action}
-use Rattle.java_control.specs.declared.action.Action.TheVariants as actions
-use Rattle.java_control.specs.declared.action.Completion.{Completion}
-use Rattle.java_control.specs.declared.action.Completion.TheVariants as completions
-use Rattle.java_control.specs.declared.fact.Fact.{Fact}
-use Rattle.java_control.specs.declared.fact.Mode.{Mode}
-use Rattle.java_control.specs.declared.fact.Mode.TheVariants as modes
-use Rattle.java_control.specs.declared.fact.Origin.{Origin}
-use Rattle.java_control.specs.declared.fact.Outcome.TheVariants.{Fault}
-use Rattle.java_control.specs.declared.fact.Rule.TheVariants as rules
+use Rattle.control_actions.specs.declared.action.Action.{Action}
+use Rattle.control_actions.specs.declared.action.Action.TheVariants as actions
+use Rattle.control_actions.specs.declared.action.Completion.{Completion}
+use Rattle.control_actions.specs.declared.action.Completion.TheVariants as completions
+use Rattle.control_actions.specs.declared.fact.Fact.{Fact}
+use Rattle.control_actions.specs.declared.fact.Mode.{Mode}
+use Rattle.control_actions.specs.declared.fact.Mode.TheVariants as modes
+use Rattle.control_actions.specs.declared.fact.Origin.{Origin}
+use Rattle.control_actions.specs.declared.fact.Outcome.TheVariants.{Fault}
+use Rattle.control_actions.specs.declared.fact.Rule.TheVariants as rules
 use Rattle.java_control.specs.PlaceNumbers.{IsSmall}
-use Rattle.java_control.specs.declared.place.Place.{Place}
-use Rattle.java_control.specs.declared.place.Place.TheVariants as places
+use Rattle.control_actions.specs.declared.place.Place.{Place}
+use Rattle.control_actions.specs.declared.place.Place.TheVariants as places
 use Rattle.ownership_rules.specs.Facts.{has, has_field, is_alias, is_origin_at, missing, owes, is_held}
 use Rattle.ownership_rules.specs.SmallActions.{IsSmallAction, IsSmallTemp}
 use Rattle.value_laws.specs.Promises.{broken_promise}

@@ -15,9 +15,9 @@ use Rattle.ownership_rules.specs.Callees.{callee, is_this_target}
 use Rattle.ownership_rules.specs.Signatures.{is_position, is_present}
 use Rattle.java_control.specs.Calls.{is_reset_of_this}
 use Rattle.java_control.specs.Remaining.{Todo}
-use Rattle.java_control.specs.declared.action.Action.{Action}
-use Rattle.java_control.specs.declared.action.Action.TheVariants as actions
-use Rattle.java_control.specs.declared.action.TargetForm.TheVariants as forms
+use Rattle.control_actions.specs.declared.action.Action.{Action}
+use Rattle.control_actions.specs.declared.action.Action.TheVariants as actions
+use Rattle.control_actions.specs.declared.action.TargetForm.TheVariants as forms
 use Rattle.value_laws.specs.Accept.{Accept}
 use Rattle.value_laws.specs.Moves.{has_body}
 use Rattle.value_laws.specs.Paths.{Comes, Move, relation_of}

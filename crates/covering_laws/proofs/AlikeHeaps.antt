@@ -12,7 +12,7 @@ use Rattle.value_laws.specs.Holders.{FieldsGoOnOwning, HasTop, IsComparable, IsW
 use Rattle.value_laws.specs.PlaceFacts.{EndsBelow, IsAnswered, IsHeavyObject, IsOld, IsOwnedBelow, IsSpared, is_frame_from, is_given_up}
 use Rattle.value_laws.specs.Renewing.{HasOwningField, IsWhole, IsWholeObject, is_renewed}
 use Rattle.value_laws.proofs.WaysUp.{within_goes_on}
-use Rattle.covering_laws.proofs.Owners.{HoldersStay, KeepsFinished, holders_stay, keeps_finished}
+use Rattle.covering_laws.proofs.Owners.{HoldersStay, holders_stay}
 
 -- the object is of the class that it was, linked, finished and owned as it was
 pub record IsAlike (x y : Object) : Type 0 where
@@ -37,9 +37,6 @@ alike_turned h k alike = record {
 
 pub alike_holders : (p : Program) (h k : HeapContents) → AreAlike h k → HoldersStay p h k
 alike_holders p h k alike = holders_stay p h k (λ o y now. let x = alike.back o y now in (x.0, x.1, x.2.class, x.2.finished, x.2.owner))
-
-pub alike_finishes : (h k : HeapContents) → AreAlike h k → KeepsFinished h k
-alike_finishes h k alike = keeps_finished h k (λ n x at done. let y = alike.forth n x at in (y.0, y.1, y.2.finished ∙ done))
 
 module _ (h k : HeapContents) (alike : AreAlike h k) where
   -- fields own what they owned

@@ -13,17 +13,17 @@ use Rattle.ledger_obligations.specs.MustCallSets.{Names, is_heavy_class, no_name
 use Rattle.ledger_obligations.specs.Obligations.{is_library_owner, is_unmet}
 use Rattle.java_control.specs.Control.{Step}
 use Rattle.java_control.specs.PlaceNumbers.{IsSmall}
-use Rattle.java_control.specs.declared.action.Action.{Action}
-use Rattle.java_control.specs.declared.fact.Fact.{Fact}
-use Rattle.java_control.specs.declared.fact.Mode.TheVariants as modes
-use Rattle.java_control.specs.declared.fact.Origin.{Origin}
-use Rattle.java_control.specs.declared.place.Place.{Place}
-use Rattle.java_control.specs.declared.place.Place.TheVariants as places
+use Rattle.control_actions.specs.declared.action.Action.{Action}
+use Rattle.control_actions.specs.declared.fact.Fact.{Fact}
+use Rattle.control_actions.specs.declared.fact.Mode.TheVariants as modes
+use Rattle.control_actions.specs.declared.fact.Origin.{Origin}
+use Rattle.control_actions.specs.declared.place.Place.{Place}
+use Rattle.control_actions.specs.declared.place.Place.TheVariants as places
 use Rattle.ownership_rules.specs.Callees.{callee}
 use Rattle.ownership_rules.specs.Facts.{PlaceSet, has, is_own, mode_at, need, is_held}
 use Rattle.ownership_rules.specs.MovesAtCalls.{moved_at_call}
 use Rattle.ownership_rules.specs.declared.moved.Moved.TheVariants as moves
-use Rattle.java_control.specs.declared.fact.Mode.{Mode}
+use Rattle.control_actions.specs.declared.fact.Mode.{Mode}
 use Rattle.ledger_state.specs.Contents.{HeapContents}
 use Rattle.ledger_state.specs.Heaps.{next_number, object_at, root_of}
 use Rattle.ledger_state.specs.declared.entry.Owner.{Owner}
@@ -44,7 +44,7 @@ use Rattle.value_laws.specs.HeapAnew.{IsEmptied}
 use Rattle.value_laws.specs.Holders.{IsWithin, by_field, itself}
 use Rattle.value_laws.specs.Outcomes.{IsCallRow}
 use Rattle.value_laws.specs.Paths.{Reach, move_of, relation_of}
-use Rattle.value_laws.specs.PlaceFacts.{AreCovered, AreWaiting, Covers, IsCovered, IsHeavyObject, IsKeyed, IsOld, IsOwned, IsTrueOf, IsUnowned, OwesOrHolds, OwnersBelow, claims, gives_away, gives_none, is_frame_from, owned, renews_none, unowned, is_lent_place}
+use Rattle.value_laws.specs.PlaceFacts.{AreCovered, AreWaiting, Covers, IsCovered, IsHeavyObject, IsKeyed, IsOld, IsOwned, IsTrueOf, IsUnowned, OwesOrHolds, OwnersBelow, gives_away, gives_none, is_frame_from, owned, renews_none, unowned, is_lent_place}
 use Rattle.value_laws.specs.PlaceRows.{places_after}
 use Rattle.value_laws.specs.Places.{place_value}
 use Rattle.value_laws.specs.PlainForms.{HasPlainForms}
@@ -263,7 +263,7 @@ module _ (p : Program) (ac : Accept p) (forms : HasPlainForms p) (h k j : HeapCo
     renews_goal = step_renews p h fr index t goal here risen.renews
 
     pub temp : (d : ℕ) × IsSmall (places.Temp d) × (root_of h (place_value p h fr.method fr.locals (places.Temp d)) ≡ Some goal) × ((held : PlaceSet) → has held (places.Temp d) ≡ true → is_target p t.action held ≡ true)
-    temp = target_temp p ac forms h fr old frs st index t here row goal risen.renews
+    temp = target_temp p ac h fr old frs st index t here row goal risen.renews
 
     -- the frame owns the target, and the fact that says so has it
     abbrev pub OwnsHere : Type 0
@@ -281,7 +281,7 @@ module _ (p : Program) (ac : Accept p) (forms : HasPlainForms p) (h k j : HeapCo
               (claims_owned p (method_at p fr.method) c.origin c.fact key.owning).0)
         ]
         by (unowned u) =
-            elim (target_mode p ac forms h fr old frs st index t here row (gives goal risen.object.class) (renewed goal) goal risen.object u.covers (temp.3 u.covers.fact.places u.here)) [
+            elim (target_mode p ac h fr old frs st index t here row (gives goal risen.object.class) (renewed goal) goal risen.object u.covers (temp.3 u.covers.fact.places u.here)) [
               | inl claimed ↦ absurd (true≢false (sym claimed ∙ u.unowned))
               | inr lends ↦ inr (inl (u.covers.lends lends risen.heavy.0).1)
             ]
@@ -293,7 +293,7 @@ module _ (p : Program) (ac : Accept p) (forms : HasPlainForms p) (h k j : HeapCo
         go : (b : Bool) → gives_away p h fr.locals t.action goal risen.object.class ≡ b → gives_away p h fr.locals t.action goal risen.object.class ≡ false
         go false none = none
         go true is =
-            absurd (target_stays p ac forms h fr old frs st index t here row (gives goal risen.object.class) (renewed goal) goal risen.object c (temp.3 c.fact.places in')
+            absurd (target_stays p ac h fr old frs st index t here row (gives goal risen.object.class) (renewed goal) goal risen.object c (temp.3 c.fact.places in')
             (away_moves p ac h fr st old frs index t here row (gives goal risen.object.class) (renewed goal) goal risen.object c key risen.heavy.1 is))
 
     pub its_owner : OwnsHere → risen.object.owner ≡ owners.Frame at
@@ -387,7 +387,7 @@ module _ (p : Program) (ac : Accept p) (forms : HasPlainForms p) (h k j : HeapCo
     has_target : goal ≡ o → (IsLentFrom p h frs o x.owner → ⊥) → (c : Covers p h (gives o x.class) anew old frs fr o x) → IsOwned p h (gives o x.class) anew old frs fr o x c → is_target p t.action c.fact.places ≡ true
     has_target one no_lent c key = elim (key.others (places.Temp temp.0) temp.1 refl (temp.2 ∙ ap Some one)) [
       | inl in' ↦ temp.3 c.fact.places in'
-      | inr u ↦ absurd (elim (target_mode p ac forms h fr old frs st index t here row (gives o x.class) anew o x u.covers (temp.3 u.covers.fact.places u.here)) [
+      | inr u ↦ absurd (elim (target_mode p ac h fr old frs st index t here row (gives o x.class) anew o x u.covers (temp.3 u.covers.fact.places u.here)) [
         | inl claimed ↦ true≢false (sym claimed ∙ u.unowned)
         | inr lends ↦ no_lent (u.covers.lends lends done).1
       ])
@@ -428,7 +428,7 @@ module _ (p : Program) (ac : Accept p) (forms : HasPlainForms p) (h k j : HeapCo
               ((λ moved. absurd (stays' moved)), (λ is. record { position = answer'.0; target = answer'.1; may = answer'.2; anew = refl })))
             where
               stays' : moved_at_call p c.origin t.action t.edge c.fact ≡ moves.Moves → ⊥
-              stays' = target_stays p ac forms h fr old frs st index t here row (gives goal risen.object.class) (renewed goal) goal risen.object c (temp.3 c.fact.places in')
+              stays' = target_stays p ac h fr old frs st index t here row (gives goal risen.object.class) (renewed goal) goal risen.object c (temp.3 c.fact.places in')
 
               answer' : (m : ℕ) × (reset_in (callee p t.action) ≡ Some m) × MayBeAnew p st.number c.origin t.action m c.fact × (moved_at_call p c.origin t.action t.edge c.fact ≡ moves.Moves → ⊥)
               answer' = answer (gives goal risen.object.class) (renewed goal) goal risen.object c (temp.3 c.fact.places in')
@@ -584,7 +584,7 @@ module _ (p : Program) (ac : Accept p) (forms : HasPlainForms p) (h k j : HeapCo
         by_done w before class is false unmade = by_made turned.0.finished refl
           where
             place : (d : ℕ) × IsSmall (places.Temp d) × (root_of h (place_value p h fr.method fr.locals (places.Temp d)) ≡ Some o) × ((held : PlaceSet) → has held (places.Temp d) ≡ true → is_target p t.action held ≡ true)
-            place = target_temp p ac forms h fr old frs st index t here row o (read o is).0
+            place = target_temp p ac h fr old frs st index t here row o (read o is).0
 
             by_made : (b : Bool) → turned.0.finished ≡ b → IsKeyed p j false false old frs after q o y
             by_made true made = absurd (true≢false (sym (ready (places.Temp place.0) o w turned.0 place.1 place.2 before turned.1 (ap (is_heavy_class p) (sym class) ∙ heavy') made) ∙ unmade))

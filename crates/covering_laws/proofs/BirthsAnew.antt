@@ -1,5 +1,5 @@
 -- Behind a call that creates the obligation of `this` anew, what an owning field of `this` holds is covered by the fact that the call bears for it.
-use Rattle.std.proofs.Common.{◌≡◌, ◌⊎◌, ℕ, ◌+◌, ◌<◌, Bool, true, false, true≢false, ◌&&◌, not, Option, Some, List, slice_get, eqb, eq-eqb, refl, sym, ap, ◌∙◌, subst}
+use Rattle.std.proofs.Common.{◌≡◌, ℕ, ◌<◌, Bool, true, false, true≢false, ◌&&◌, not, Option, Some, List, slice_get, eqb, eq-eqb, refl, sym, ap, ◌∙◌, subst}
 use Rattle.std.specs.FinSet as set
 use Rattle.std.proofs.lemmas.Bool.{and_from}
 use Rattle.std.proofs.lemmas.Option.{slice_get-get_or}
@@ -22,11 +22,11 @@ use Rattle.java_control.specs.Control.{Step}
 use Rattle.java_control.specs.Owned.{place_of_field}
 use Rattle.java_control.specs.PlaceNumbers.{IsSmall, number_of}
 use Rattle.java_control.specs.Remaining.{Todo}
-use Rattle.java_control.specs.declared.fact.Fact.{Fact}
-use Rattle.java_control.specs.declared.fact.Mode.TheVariants as modes
-use Rattle.java_control.specs.declared.fact.Origin.{Origin}
-use Rattle.java_control.specs.declared.place.Place.{Place}
-use Rattle.java_control.specs.declared.place.Place.TheVariants as places
+use Rattle.control_actions.specs.declared.fact.Fact.{Fact}
+use Rattle.control_actions.specs.declared.fact.Mode.TheVariants as modes
+use Rattle.control_actions.specs.declared.fact.Origin.{Origin}
+use Rattle.control_actions.specs.declared.place.Place.{Place}
+use Rattle.control_actions.specs.declared.place.Place.TheVariants as places
 use Rattle.ownership_rules.specs.Births.{births_of_step, fact_at}
 use Rattle.ownership_rules.specs.Facts.{has, is_own, without}
 use Rattle.value_laws.specs.Accept.{Accept}

@@ -14,8 +14,8 @@ use Rattle.program_model.specs.Validity.{IfPosition, MayHaveBody}
 use Rattle.ledger_obligations.specs.AliasCases.{calls_alias, gives_exception, has_bad_alias_form, has_owning_alias, has_unequal_sets, is_half_marked}
 use Rattle.ledger_obligations.specs.Bodies.{alias_in, alias_position, is_alias_constructor, is_constructor, method_of}
 use Rattle.ownership_rules.specs.Signatures.{is_owning_at, is_present, owning_in}
-use Rattle.java_control.specs.declared.fact.OriginKind.{OriginKind}
-use Rattle.java_control.specs.declared.fact.OriginKind.TheVariants as kinds
+use Rattle.control_actions.specs.declared.fact.OriginKind.{OriginKind}
+use Rattle.control_actions.specs.declared.fact.OriginKind.TheVariants as kinds
 use Rattle.ownership_rules.specs.Facts.{is_origin_at}
 use Rattle.value_laws.specs.Accept.{Accept}
 use Rattle.ledger_steps.specs.LedgerCallsCalls.{body_of}

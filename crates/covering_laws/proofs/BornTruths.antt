@@ -8,10 +8,10 @@ use Rattle.rlc_base.proofs.SetLaws.{empty_within, within_from, within_self, with
 use Rattle.program_model.specs.declared.kinds.ClassId.{ClassId}
 use Rattle.program_model.specs.declared.program.Program.{Program}
 use Rattle.ledger_obligations.specs.MustCallSets.{Names, fits, must_of, no_names}
-use Rattle.java_control.specs.declared.fact.Mode.TheVariants as modes
-use Rattle.java_control.specs.declared.fact.OriginKind.{OriginKind}
-use Rattle.java_control.specs.declared.fact.OriginKind.TheVariants as kinds
-use Rattle.java_control.specs.declared.place.Place.{Place}
+use Rattle.control_actions.specs.declared.fact.Mode.TheVariants as modes
+use Rattle.control_actions.specs.declared.fact.OriginKind.{OriginKind}
+use Rattle.control_actions.specs.declared.fact.OriginKind.TheVariants as kinds
+use Rattle.control_actions.specs.declared.place.Place.{Place}
 use Rattle.ownership_rules.specs.Births.{fact_at, origin_of}
 use Rattle.ledger_state.specs.declared.object.Object.{Object}
 use Rattle.ledger_obligations.specs.Obligations.{first_set}

@@ -10,9 +10,9 @@ use Rattle.program_model.specs.Lookups.{method_at}
 use Rattle.value_laws.specs.Effective.{is_instance_kind}
 use Rattle.ledger_obligations.specs.Bodies.{constructs, is_constructor_kind}
 use Rattle.ledger_obligations.specs.WellFormed.{interest_of}
-use Rattle.java_control.specs.declared.action.Action.{Action}
-use Rattle.java_control.specs.declared.action.Action.TheVariants as actions
-use Rattle.java_control.specs.declared.action.TargetForm.TheVariants as forms
+use Rattle.control_actions.specs.declared.action.Action.{Action}
+use Rattle.control_actions.specs.declared.action.Action.TheVariants as actions
+use Rattle.control_actions.specs.declared.action.TargetForm.TheVariants as forms
 use Rattle.ownership_rules.specs.Callees.{callee, is_super_target}
 use Rattle.value_laws.specs.Accept.{Accept}
 use Rattle.ledger_state.specs.Contents.{HeapContents}

@@ -9,7 +9,7 @@ use Rattle.ledger_obligations.specs.MustCallSets.{is_heavy_class}
 use Rattle.java_control.specs.Control.{Step}
 use Rattle.java_control.specs.PlaceNumbers.{IsSmall}
 use Rattle.java_control.specs.Sources.{source}
-use Rattle.java_control.specs.declared.place.Place.{Place}
+use Rattle.control_actions.specs.declared.place.Place.{Place}
 use Rattle.ownership_rules.specs.Callees.{callee, is_super_target}
 use Rattle.value_laws.specs.Aliases.{gives_alias}
 use Rattle.value_laws.specs.CalledRows.{interest_in, is_emptied, promises_at, called_after}
@@ -43,8 +43,8 @@ use Rattle.covering_laws.proofs.TopSteps.{IsBornAnew, IsKeyedFrom, IsLeftOut, Is
 use Rattle.covering_laws.proofs.Waiting.{Carries, HoldsThere, KeepsFieldsButTexts, KeepsReady, KeepsRootsOf}
 use Rattle.value_laws.specs.FactGoing.{GoesAs, is_owned_in}
 use Rattle.program_model.specs.Lookups.{method_at}
-use Rattle.java_control.specs.declared.fact.Fact.{Fact}
-use Rattle.java_control.specs.declared.fact.Origin.{Origin}
+use Rattle.control_actions.specs.declared.fact.Fact.{Fact}
+use Rattle.control_actions.specs.declared.fact.Origin.{Origin}
 use Rattle.ownership_rules.specs.MovesAtCalls.{moved_at_call}
 use Rattle.value_laws.specs.Flow.{flow}
 use Rattle.value_laws.specs.PlaceRows.{places_after}

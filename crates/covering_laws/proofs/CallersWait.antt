@@ -3,7 +3,7 @@ use Rattle.std.proofs.Common.{◌≡◌, inl, inr, ℕ, ◌+◌, Bool, true, fal
 use Rattle.program_model.specs.declared.program.Program.{Program}
 use Rattle.ledger_obligations.specs.MustCallSets.{is_heavy_class}
 use Rattle.java_control.specs.Control.{Step}
-use Rattle.java_control.specs.declared.place.Place.{Place}
+use Rattle.control_actions.specs.declared.place.Place.{Place}
 use Rattle.value_laws.specs.Accept.{Accept}
 use Rattle.ledger_state.specs.Contents.{HeapContents}
 use Rattle.ledger_state.specs.Heaps.{object_at}
@@ -58,7 +58,7 @@ module _ (p : Program) (ac : Accept p) (forms : HasPlainForms p) (h : HeapConten
         go : (b : Bool) → is_renewed p h fr o ≡ b → is_renewed p h fr o ≡ false
         go false none = none
         go true some = absurd (spared_apart p h have fr frs new unfinished o o x spared (is.ends o x there (done, heavy) was) there (inl done, heavy)
-            (renewed_answered p ac forms h fr st old frs i s here row covered holds have targets makes o x there heavy owes (renewed_at_step p h fr st i s o here row some) (inl done)) (inl (itself o)))
+            (renewed_answered p ac h fr st old frs i s here row covered holds have targets makes o x there heavy owes (renewed_at_step p h fr st i s o here row some) (inl done)) (inl (itself o)))
 
     waiting : Covers p h false false old frs fr o x → Covers p h away anew old frs fr o x
     waiting c = record {

@@ -3,9 +3,7 @@ use Rattle.program_model.specs.declared.program.Method.{Method}
 use Rattle.std.proofs.lemmas.Bool.{and_parts, not-true}
 use Rattle.covering_laws.proofs.Following.{method_here}
 use Rattle.value_laws.specs.Renewing.{IsMadeBy}
-use Rattle.std.specs.Prelude.{◌&&◌}
-use Rattle.std.specs.FinSet as set
-use Rattle.std.proofs.Common.{◌≡◌, ◌⊎◌, inl, inr, ℕ, ◌+◌, ◌<◌, Bool, true, false, Some, None, List, ◌∷◌, length, slice_get, nat_eq, eq-eqb, eqb-true, refl, sym, ap, ◌∙◌, subst, true≢false, arith, [], not, Option}
+use Rattle.std.proofs.Common.{◌≡◌, inl, inr, ℕ, ◌+◌, Bool, true, false, Some, None, List, ◌∷◌, length, slice_get, nat_eq, eq-eqb, eqb-true, refl, sym, ap, ◌∙◌, subst, true≢false, arith, [], not, Option}
 use Rattle.std.proofs.lemmas.List.Elements.{All-head, All-tail}
 use Rattle.program_model.specs.declared.kinds.FieldId.{FieldId}
 use Rattle.program_model.specs.declared.program.Field.{Field}
@@ -16,8 +14,7 @@ use Rattle.ledger_obligations.specs.MustCallSets.{is_heavy_class}
 use Rattle.ownership_rules.specs.Signatures.{type_of_field, is_present}
 use Rattle.java_control.specs.Control.{Step}
 use Rattle.java_control.specs.Owned.{is_owning}
-use Rattle.java_control.specs.declared.place.Place.TheVariants as places
-use Rattle.java_control.specs.declared.action.Action.TheVariants as actions
+use Rattle.control_actions.specs.declared.action.Action.TheVariants as actions
 use Rattle.value_laws.specs.Accept.{Accept}
 use Rattle.ledger_state.specs.Contents.{HeapContents}
 use Rattle.ledger_state.specs.Fields.{field_of}
@@ -28,7 +25,6 @@ use Rattle.ledger_state.specs.declared.value.Value.{Value}
 use Rattle.ledger_state.specs.declared.value.Value.TheVariants as values
 use Rattle.ledger_obligations.specs.Obligations as obligations
 use Rattle.ledger_obligations.specs.Obligations.{finished_in}
-use Rattle.ledger_steps.specs.LedgerCallsCalls as ledger_calls
 use Rattle.value_laws.specs.Configuration.{Frame}
 use Rattle.value_laws.specs.Choosing.{frame_steps}
 use Rattle.value_laws.specs.Chains.{HaveEnds}

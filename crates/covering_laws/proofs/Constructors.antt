@@ -18,8 +18,8 @@ use Rattle.ledger_obligations.specs.Assigned.{is_spoken_variable}
 use Rattle.ledger_obligations.specs.Bodies.{alias_in, alias_position, constructs, is_alias_constructor, is_constructor, is_constructor_kind}
 use Rattle.ledger_obligations.specs.MustCallSets.{is_empty, is_heavy_class, must_of_optional}
 use Rattle.ownership_rules.specs.Signatures.{is_present, type_at, type_in}
-use Rattle.java_control.specs.declared.fact.OriginKind.{OriginKind}
-use Rattle.java_control.specs.declared.place.Place.TheVariants as places
+use Rattle.control_actions.specs.declared.fact.OriginKind.{OriginKind}
+use Rattle.control_actions.specs.declared.place.Place.TheVariants as places
 use Rattle.ownership_rules.specs.Facts.{is_origin_at}
 use Rattle.ownership_rules.specs.Room.{variable_count, variables_in}
 use Rattle.value_laws.specs.Paths.{Reach, relation_of}

@@ -1,6 +1,6 @@
 -- The objects whose fields own something: a class with an owning field whose type has an obligation has one itself, so the way up from an object with an obligation leads through such
 -- objects, which are linked to none.
-use Rattle.std.proofs.Common.{◌≡◌, ◌⊎◌, ℕ, Bool, true, false, not, ◌||◌, Some, List, refl, sym, ap, ◌∙◌, true≢false}
+use Rattle.std.proofs.Common.{◌≡◌, ℕ, Bool, true, false, not, Some, List, refl, sym, ap, ◌∙◌, true≢false}
 use Rattle.std.specs.FinSet as set
 use Rattle.std.proofs.lemmas.Bool.{or_right}
 use Rattle.rlc_base.proofs.SetLaws.{member_of-empty, within_at, within_from}

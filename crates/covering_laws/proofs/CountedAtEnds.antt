@@ -14,7 +14,7 @@ use Rattle.ownership_rules.specs.Signatures.{is_position, is_present}
 use Rattle.ownership_rules.specs.Facts.{has, has_part, is_held, is_own}
 use Rattle.java_control.specs.Calls.{is_reset_of_this}
 use Rattle.java_control.specs.Control.{Step}
-use Rattle.java_control.specs.declared.place.Place.TheVariants as places
+use Rattle.control_actions.specs.declared.place.Place.TheVariants as places
 use Rattle.ledger_state.specs.Contents.{HeapContents}
 use Rattle.ledger_state.specs.Heaps.{object_at}
 use Rattle.ledger_state.specs.declared.entry.Owner.{Owner}
@@ -174,7 +174,7 @@ module _ (p : Program) (ac : Accept p) (forms : HasPlainForms p) (h : HeapConten
     abbrev pub IsSure : Its → Type 0
     IsSure c =
         (IsOwned p h (is_given p h caller o x.class) (is_reread p h caller o x.owner) older rest caller o x c × (is_given p h caller o x.class ≡ false))
-        ⊎ ((tells_calls p caller.method c.origin c.fact ≡ true) × IsApart p h older rest caller o x.owner c.fact)
+        ⊎ ((tells_calls p caller.method c.origin c.fact ≡ true) × IsApart p h older rest caller o c.fact)
 
     pub counted : (c : Its) → IsSure c → is_emptied p t.action c.fact.places ≡ false → IsCountedOn p h old (caller ∷ rest) fr o x
     counted c (inr (tells, apart)) full = (up o apart.0, spares (counts_as_spared apart.1 (was_old.ends o x before (done, heavy) apart.0)), apart.2)

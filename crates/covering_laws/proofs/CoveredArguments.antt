@@ -12,15 +12,15 @@ use Rattle.program_model.specs.declared.program.ParamSig.{ParamSig}
 use Rattle.program_model.specs.declared.program.Program.{Program}
 use Rattle.ledger_obligations.specs.MustCallSets.{Names, fits_type, is_empty, is_heavy_as, is_heavy_class}
 use Rattle.ownership_rules.specs.Signatures.{is_present, when}
-use Rattle.java_control.specs.declared.action.Action.{Action}
-use Rattle.java_control.specs.declared.action.Action.TheVariants as actions
-use Rattle.java_control.specs.declared.action.Edge.{Edge}
-use Rattle.java_control.specs.declared.fact.Fact.{Fact}
-use Rattle.java_control.specs.declared.fact.Mode.{Mode}
-use Rattle.java_control.specs.declared.fact.Mode.TheVariants as modes
-use Rattle.java_control.specs.declared.fact.Origin.{Origin}
-use Rattle.java_control.specs.declared.fact.Rule.{Rule}
-use Rattle.java_control.specs.declared.fact.Rule.TheVariants as rules
+use Rattle.control_actions.specs.declared.action.Action.{Action}
+use Rattle.control_actions.specs.declared.action.Action.TheVariants as actions
+use Rattle.control_actions.specs.declared.action.Edge.{Edge}
+use Rattle.control_actions.specs.declared.fact.Fact.{Fact}
+use Rattle.control_actions.specs.declared.fact.Mode.{Mode}
+use Rattle.control_actions.specs.declared.fact.Mode.TheVariants as modes
+use Rattle.control_actions.specs.declared.fact.Origin.{Origin}
+use Rattle.control_actions.specs.declared.fact.Rule.{Rule}
+use Rattle.control_actions.specs.declared.fact.Rule.TheVariants as rules
 use Rattle.ownership_rules.specs.Callees.{callee, holds_operand, may_be_null_target}
 use Rattle.ownership_rules.specs.Facts.{PlaceSet, is_own, is_met}
 use Rattle.value_laws.specs.PlaceRows.{places_after}

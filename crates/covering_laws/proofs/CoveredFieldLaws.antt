@@ -7,8 +7,8 @@ use Rattle.program_model.specs.declared.program.Program.{Program}
 use Rattle.program_model.specs.Lookups.{method_at}
 use Rattle.ledger_obligations.specs.Bodies.{alias_position, constructs, has_field_place, is_alias_constructor, is_finalizer}
 use Rattle.java_control.specs.Control.{Step}
-use Rattle.java_control.specs.declared.action.Action.TheVariants as actions
-use Rattle.java_control.specs.declared.action.Completion.{Completion}
+use Rattle.control_actions.specs.declared.action.Action.TheVariants as actions
+use Rattle.control_actions.specs.declared.action.Completion.{Completion}
 use Rattle.value_laws.specs.Accept.{Accept}
 use Rattle.value_laws.specs.Ends.{is_throw}
 use Rattle.ledger_state.specs.Contents.{HeapContents}

@@ -15,9 +15,9 @@ use Rattle.ledger_obligations.specs.WellFormed.{HasSmallInterests}
 use Rattle.java_control.specs.Calls.{called_method, is_reset_of_this}
 use Rattle.java_control.specs.Control.{Step}
 use Rattle.java_control.specs.PlaceNumbers.{IsSmall}
-use Rattle.java_control.specs.declared.action.Action.{Action}
-use Rattle.java_control.specs.declared.action.Action.TheVariants as actions
-use Rattle.java_control.specs.declared.action.Completion.{Completion}
+use Rattle.control_actions.specs.declared.action.Action.{Action}
+use Rattle.control_actions.specs.declared.action.Action.TheVariants as actions
+use Rattle.control_actions.specs.declared.action.Completion.{Completion}
 use Rattle.ownership_rules.specs.Callees.{callee, callee_in, is_super_target}
 use Rattle.value_laws.specs.CalledRows.{interest_in, is_emptied}
 use Rattle.value_laws.specs.Accept.{Accept}
@@ -41,7 +41,7 @@ use Rattle.value_laws.specs.Heaps.{GoesOn, HasEarlierLinks}
 use Rattle.value_laws.specs.ProgramCalls.{IsReturned}
 use Rattle.value_laws.specs.Leading.{Leads, is_passed_on}
 use Rattle.value_laws.proofs.HeapLaws.{roots_of_links-itself}
-use Rattle.value_laws.specs.Agreement.{AllStand, HasMadeClasses, IsMadeAfter, IsMadeBy, RunsItself, RunsOnSame, Stands}
+use Rattle.value_laws.specs.Agreement.{AllStand, HasMadeClasses, IsMadeAfter, IsMadeByNew, RunsItself, RunsOnSame, Stands}
 use Rattle.value_laws.specs.Chains.{HaveEnds}
 use Rattle.value_laws.specs.PlainForms.{HasPlainForms, IsPlainAction, IsPlainCall, MayRun, RunsFor}
 use Rattle.value_laws.specs.Nexts.{IsBackStep}
@@ -99,16 +99,16 @@ use Rattle.program_model.specs.Overrides.{is_library}
 use Rattle.ledger_obligations.specs.Bodies.{alias_in, constructs, is_constructor_kind}
 use Rattle.covering_laws.specs.Making.{IsUnheld}
 use Rattle.ledger_obligations.specs.MustCallSets.{is_heavy_class}
-use Rattle.java_control.specs.declared.action.Completion.TheVariants as completions
-use Rattle.java_control.specs.declared.action.Edge.TheVariants as edges
+use Rattle.control_actions.specs.declared.action.Completion.TheVariants as completions
+use Rattle.control_actions.specs.declared.action.Edge.TheVariants as edges
 use Rattle.value_laws.specs.Ends.{is_throw}
 use Rattle.value_laws.specs.Paths.{move_of}
 use Rattle.value_laws.specs.Arguments.{HasArguments, has_receiver}
 use Rattle.value_laws.specs.Aliases.{gives_alias}
-use Rattle.java_control.specs.declared.fact.Fact.{Fact}
-use Rattle.java_control.specs.declared.fact.Origin.{Origin}
-use Rattle.java_control.specs.declared.place.Place.{Place}
-use Rattle.java_control.specs.declared.place.Place.TheVariants as places
+use Rattle.control_actions.specs.declared.fact.Fact.{Fact}
+use Rattle.control_actions.specs.declared.fact.Origin.{Origin}
+use Rattle.control_actions.specs.declared.place.Place.{Place}
+use Rattle.control_actions.specs.declared.place.Place.TheVariants as places
 use Rattle.ownership_rules.specs.Facts.{is_held, is_own}
 use Rattle.value_laws.specs.Frames.{is_made, made_place}
 use Rattle.value_laws.specs.Places.{class_of_method, place_value}
@@ -131,7 +131,7 @@ use Rattle.covering_laws.specs.Texts.{TextsAreLight}
 module _ (p : Program) (ac : Accept p) (forms : HasPlainForms p) (runs' : HasPlainRuns p) (names : HasSmallInterests p) (h : HeapContents) (texts : TextsAreLight p h) (links : HasEarlierLinks h) (apart : LinkedAreAliases p h) (ranges : FieldsInRange h)
     (fr caller : Frame) (rest : List Frame) (st : Stands p fr) (below : Stands p caller) (targets : KeepsTargets p caller) (keeps : KeepsTypes (is_text p h) p fr) (gives : GivesAsNamed p caller fr) (dispatched : IsDispatched p h fr caller)
     (making : IsBeingMade p h fr caller) (mine' : LocalsInRange h fr.locals) (old : ℕ → Bool) (covered : IsCovered p h gives_none renews_none old (caller ∷ rest) fr) (i : ℕ) (s : Step) (q : Completion) (here : slice_get (frame_steps p fr) i ≡ Some s) (is : s.action ≡ actions.End q)
-    (t : Step) (named : MethodId) (back : IsBackStep p (frame_steps p caller) (exception_class p h (thrown_in fr.locals q)) named t) (may : MayRun p named fr.method) (makes : IsMadeBy p h t.action fr.locals.this) (itself : RunsItself t.action named fr.method) (args : HasArguments p caller fr) (exits : EndsAsDeclared p h fr)
+    (t : Step) (named : MethodId) (back : IsBackStep p (frame_steps p caller) (exception_class p h (thrown_in fr.locals q)) named t) (may : MayRun p named fr.method) (makes : IsMadeByNew p h t.action fr.locals.this) (itself : RunsItself t.action named fr.method) (args : HasArguments p caller fr) (exits : EndsAsDeclared p h fr)
     (leads : LinksLead p h) (ends : HaveEnds h) (made_after : IsMadeAfter p caller.locals t.action fr.locals.this) (classes : HasMadeClasses p h) (unheld : IsUnheld p h fr caller rest) (in' : LocalsIn h (caller ∷ rest)) (alone : TopRunsAlone p h (fr ∷ caller ∷ rest)) (contents : HaveContents p (fr ∷ caller ∷ rest) h)
     (unlinked : HoldersAreUnlinked (is_heavy_class p) h) (fresh : (w : ℕ) → is_new t.action ≡ true → fr.locals.this ≡ values.Object w → RunOnOthers w (caller ∷ rest)) (on_same : RunsOnSame t.action caller.locals.this fr.locals.this)
     (stored : StoredHoldNone (is_text p h) p h) where
@@ -259,7 +259,7 @@ module _ (p : Program) (ac : Accept p) (forms : HasPlainForms p) (runs' : HasPla
   self_made : is_new t.action ≡ true → (w : ℕ) × (fr.locals.this ≡ values.Object w) × (0 < w) × (w < next_number h)
   self_made new = go t.action refl new makes
     where
-      go : (a : Action) → t.action ≡ a → is_new a ≡ true → IsMadeBy p h a fr.locals.this → (w : ℕ) × (fr.locals.this ≡ values.Object w) × (0 < w) × (w < next_number h)
+      go : (a : Action) → t.action ≡ a → is_new a ≡ true → IsMadeByNew p h a fr.locals.this → (w : ℕ) × (fr.locals.this ≡ values.Object w) × (0 < w) × (w < next_number h)
       go actions.Skip is' one made' = absurd (true≢false (sym one))
       go (actions.New m' d n') is' one made' = (made'.0, made'.1, made'.4, made'.2)
       go a is' one made' = absurd (true≢false (sym one))
@@ -268,7 +268,7 @@ module _ (p : Program) (ac : Accept p) (forms : HasPlainForms p) (runs' : HasPla
   made_class : is_new t.action ≡ true → (w : ℕ) (x : Object) → fr.locals.this ≡ values.Object w → object_at h w ≡ Some x → (named_there.0.class ≡ x.class) × (is_constructor_kind named_there.0.kind ≡ true)
   made_class new w x this there = go t.action refl new makes
     where
-      go : (a : Action) → t.action ≡ a → is_new a ≡ true → IsMadeBy p h a fr.locals.this → (named_there.0.class ≡ x.class) × (is_constructor_kind named_there.0.kind ≡ true)
+      go : (a : Action) → t.action ≡ a → is_new a ≡ true → IsMadeByNew p h a fr.locals.this → (named_there.0.class ≡ x.class) × (is_constructor_kind named_there.0.kind ≡ true)
       go actions.Skip is' one made' = absurd (true≢false (sym one))
       go (actions.New m' d n') is' one made' =
           let m_is = named_is m' (ap called_method is') in
@@ -781,7 +781,7 @@ module _ (p : Program) (ac : Accept p) (forms : HasPlainForms p) (runs' : HasPla
       read_here : (o : ℕ) → is_renewed p h caller o ≡ true → (renews p h caller.locals t.action o ≡ true) × (o < next_number h)
       read_here o is' =
           let does = renewed_at_step p h caller below back.index t o back.here back.row is' in
-          let place = target_temp p ac forms h caller older rest below back.index t back.here back.row o does in
+          let place = target_temp p ac h caller older rest below back.index t back.here back.row o does in
           (does, (numbered h links (place_value p h caller.method caller.locals (places.Temp place.0)) o place.2 (inside (places.Temp place.0) place.1)).1)
 
       -- each place of the caller, and of the frames below it, is covered

@@ -26,16 +26,16 @@ use Rattle.ownership_rules.specs.Signatures.{is_at, is_position, promised_names,
 use Rattle.java_control.specs.Calls.{called_method, is_receiver, is_reset_of_this, is_this_form, resets_receiver}
 use Rattle.java_control.specs.Control.{Step}
 use Rattle.java_control.specs.Owned.{field_number, place_of_field}
-use Rattle.java_control.specs.declared.action.Action.{Action}
-use Rattle.java_control.specs.declared.action.Action.TheVariants as actions
-use Rattle.java_control.specs.declared.action.Completion.{Completion}
-use Rattle.java_control.specs.declared.action.Edge.{Edge}
-use Rattle.java_control.specs.declared.action.Edge.TheVariants as edges
-use Rattle.java_control.specs.declared.action.TargetForm.TheVariants as forms
+use Rattle.control_actions.specs.declared.action.Action.{Action}
+use Rattle.control_actions.specs.declared.action.Action.TheVariants as actions
+use Rattle.control_actions.specs.declared.action.Completion.{Completion}
+use Rattle.control_actions.specs.declared.action.Edge.{Edge}
+use Rattle.control_actions.specs.declared.action.Edge.TheVariants as edges
+use Rattle.control_actions.specs.declared.action.TargetForm.TheVariants as forms
 use Rattle.ownership_rules.specs.Callees.{callee, callee_in, is_this_target, may_be_null_target, holds_operand}
 use Rattle.ownership_rules.specs.Facts.{PlaceSet, has, has_part, is_held, is_origin_at, is_own}
 use Rattle.ownership_rules.specs.SmallActions.{IsSmallAction}
-use Rattle.java_control.specs.declared.place.Place.{Place}
+use Rattle.control_actions.specs.declared.place.Place.{Place}
 use Rattle.value_laws.specs.CalledRows.{holds_field, holds_target, is_emptied, promises_at}
 use Rattle.value_laws.specs.Accept.{Accept}
 use Rattle.ledger_state.specs.Contents.{HeapContents}
@@ -82,12 +82,12 @@ use Rattle.covering_laws.proofs.PromisedFields.{IsOwnField, promised_field}
 use Rattle.covering_laws.proofs.ThisOperands.{first_value}
 use Rattle.std.specs.List.{All, list_any}
 use Rattle.program_model.specs.declared.kinds.BodyId.{BodyId}
-use Rattle.java_control.specs.declared.fact.Fact.{Fact}
+use Rattle.control_actions.specs.declared.fact.Fact.{Fact}
 use Rattle.value_laws.specs.Arguments.{HasArguments}
 use Rattle.program_model.specs.Validity.{HasParameters, IsBodyOf, IsPromised, IsValidSig}
 use Rattle.value_laws.specs.Outcomes.{IsCallRow, IsFault}
 use Rattle.java_control.specs.PlaceNumbers.{IsSmall}
-use Rattle.java_control.specs.declared.fact.OriginKind.{OriginKind}
+use Rattle.control_actions.specs.declared.fact.OriginKind.{OriginKind}
 use Rattle.program_model.specs.declared.program.ParamSig.{ParamSig}
 use Rattle.value_laws.proofs.SignedPromises.{Promises}
 use Rattle.program_model.specs.declared.tree.Var.{Var}
@@ -102,9 +102,9 @@ use Rattle.ledger_state.specs.Locals.{variable_value}
 use Rattle.covering_laws.proofs.ParameterEnds.{AsksFor, return_asks, shown_on_field, shown_on_position, throw_asks, unowned_moves}
 use Rattle.covering_laws.proofs.CoveredArguments.{argument_is_given, asked_before}
 use Rattle.value_laws.proofs.FactOrigins.{parameters_own, this_own}
-use Rattle.java_control.specs.declared.fact.OriginKind.TheVariants as kinds
-use Rattle.java_control.specs.declared.fact.Mode.TheVariants as modes
-use Rattle.java_control.specs.declared.place.Place.TheVariants as places
+use Rattle.control_actions.specs.declared.fact.OriginKind.TheVariants as kinds
+use Rattle.control_actions.specs.declared.fact.Mode.TheVariants as modes
+use Rattle.control_actions.specs.declared.place.Place.TheVariants as places
 use Rattle.ownership_rules.specs.declared.moved.Moved.TheVariants as moves
 
 no_promise : (xs : List Promise) (j : ℕ) (q : Promise) → xs ≡ [] → slice_get xs j ≡ Some q → ⊥

@@ -8,8 +8,8 @@ use Rattle.program_model.specs.declared.program.Method.{Method}
 use Rattle.program_model.specs.declared.program.Program.{Program}
 use Rattle.ledger_obligations.specs.Bodies.{constructs}
 use Rattle.ledger_obligations.specs.MustCallSets.{is_heavy_class}
-use Rattle.java_control.specs.declared.action.Action.{Action}
-use Rattle.java_control.specs.declared.action.Action.TheVariants as actions
+use Rattle.control_actions.specs.declared.action.Action.{Action}
+use Rattle.control_actions.specs.declared.action.Action.TheVariants as actions
 use Rattle.ledger_state.specs.Contents.{HeapContents}
 use Rattle.ledger_state.specs.Heaps.{object_at, root_of}
 use Rattle.ledger_state.specs.Values.{number_of}
@@ -28,7 +28,7 @@ use Rattle.value_laws.specs.ProgramCalls as program_calls
 use Rattle.value_laws.specs.ProgramCalls.{IsLinkedTo, IsReturned}
 use Rattle.value_laws.proofs.EndLaws.{changed_back, frame_back, holder_back, is_held}
 use Rattle.value_laws.proofs.Returned.{end_back, gone_back, result_back, result_takes}
-use Rattle.value_laws.specs.FieldContents.{is_new, RunOnOthers}
+use Rattle.value_laws.specs.FieldContents.{is_new}
 use Rattle.value_laws.specs.PlaceFacts.{OwnersBelow, is_frame_from, may_owe}
 use Rattle.covering_laws.proofs.Owners.{IsNewTo, OwnerGoes, OwnersGo, frame_from_lower, from_frame, held_at, passed, stays}
 use Rattle.value_laws.specs.Configuration.{Frame}

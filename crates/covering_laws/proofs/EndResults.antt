@@ -23,17 +23,17 @@ use Rattle.ledger_obligations.specs.OverrideCases.{differ}
 use Rattle.java_control.specs.Calls.{called_method, completion_temp}
 use Rattle.java_control.specs.Control.{Step}
 use Rattle.java_control.specs.PlaceNumbers.{IsSmall}
-use Rattle.java_control.specs.declared.action.Action.{Action}
-use Rattle.java_control.specs.declared.action.Action.TheVariants as actions
-use Rattle.java_control.specs.declared.action.Completion.{Completion}
-use Rattle.java_control.specs.declared.action.Completion.TheVariants as completions
-use Rattle.java_control.specs.declared.action.Edge.TheVariants as edges
-use Rattle.java_control.specs.declared.action.TargetForm.{TargetForm}
-use Rattle.java_control.specs.declared.fact.Mode.{Mode}
-use Rattle.java_control.specs.declared.fact.Mode.TheVariants as modes
-use Rattle.java_control.specs.declared.fact.OriginKind.TheVariants as kinds
-use Rattle.java_control.specs.declared.place.Place.{Place}
-use Rattle.java_control.specs.declared.place.Place.TheVariants as places
+use Rattle.control_actions.specs.declared.action.Action.{Action}
+use Rattle.control_actions.specs.declared.action.Action.TheVariants as actions
+use Rattle.control_actions.specs.declared.action.Completion.{Completion}
+use Rattle.control_actions.specs.declared.action.Completion.TheVariants as completions
+use Rattle.control_actions.specs.declared.action.Edge.TheVariants as edges
+use Rattle.control_actions.specs.declared.action.TargetForm.{TargetForm}
+use Rattle.control_actions.specs.declared.fact.Mode.{Mode}
+use Rattle.control_actions.specs.declared.fact.Mode.TheVariants as modes
+use Rattle.control_actions.specs.declared.fact.OriginKind.TheVariants as kinds
+use Rattle.control_actions.specs.declared.place.Place.{Place}
+use Rattle.control_actions.specs.declared.place.Place.TheVariants as places
 use Rattle.ownership_rules.specs.Facts.{has, is_held, is_own}
 use Rattle.ownership_rules.specs.Signatures.{is_present}
 use Rattle.ownership_rules.specs.SmallActions.{IsSmallAction, IsSmallTemp}
@@ -67,7 +67,7 @@ use Rattle.value_laws.specs.Heaps.{HasEarlierLinks}
 use Rattle.value_laws.proofs.HeapLaws.{roots_of_links-itself}
 use Rattle.value_laws.proofs.PlaceLaws.{single_place-same}
 use Rattle.value_laws.specs.Outcomes.{IsCallRow, IsFault}
-use Rattle.value_laws.specs.Agreement.{IsMade, IsMadeBy, Stands}
+use Rattle.value_laws.specs.Agreement.{IsMade, IsMadeByNew, Stands}
 use Rattle.value_laws.specs.PlainForms.{HasPlainForms, IsPlainCall, MayRun, RunsFor, all_owe_nothing}
 use Rattle.value_laws.specs.Nexts.{IsBackStep}
 use Rattle.value_laws.specs.Operands.{NoObject, result_of}
@@ -103,14 +103,10 @@ use Rattle.covering_laws.proofs.Waiting.{IsCarried, KeepsRoots, bore_before, val
 use Rattle.covering_laws.proofs.Owners.{HoldersWere}
 use Rattle.covering_laws.specs.Texts.{TextsAreLight}
 
-no_number : (k : HeapContents) (v : Value) (o : ℕ) → number_of v ≡ None → root_of k v ≡ Some o → ⊥
-no_number k (values.Object n) o none is = absurd (let never : Some n ≡ None = none in cc)
-no_number k v o none is = cc
-
 module _ (p : Program) (ac : Accept p) (forms' : HasPlainForms p) (runs' : HasPlainRuns p) (h : HeapContents) (texts : TextsAreLight p h) (links : HasEarlierLinks h) (apart : LinkedAreAliases p h) (fr caller : Frame) (rest : List Frame) (st : Stands p fr) (below : Stands p caller)
     (keeps : KeepsTypes (is_text p h) p fr) (gives : GivesAsNamed p caller fr) (mine' : LocalsInRange h fr.locals) (old older : ℕ → Bool) (covered : IsCovered p h gives_none renews_none old (caller ∷ rest) fr) (i : ℕ) (s : Step) (q : Completion) (here : slice_get (frame_steps p fr) i ≡ Some s) (is : s.action ≡ actions.End q)
     (t : Step) (named : MethodId) (back : IsBackStep p (frame_steps p caller) (exception_class p h (thrown_in fr.locals q)) named t) (n : Method) (named_at : method_at p named ≡ Some n) (call : IsPlainCall p named)
-    (may : MayRun p named fr.method) (makes : IsMadeBy p h t.action fr.locals.this) (declared : EndsAsDeclared p h fr) where
+    (may : MayRun p named fr.method) (makes : IsMadeByNew p h t.action fr.locals.this) (declared : EndsAsDeclared p h fr) where
   -- the position of the caller
   abbrev at : ℕ
   at = length rest + 1
@@ -238,7 +234,7 @@ module _ (p : Program) (ac : Accept p) (forms' : HasPlainForms p) (runs' : HasPl
 
       new_given : (m : MethodId) (d c : ℕ) → t.action ≡ actions.New m d c → root_of K fr.locals.this ≡ Some o → IsGivenHere
       new_given m d c it root' =
-          let made = subst (λ (a : Action). IsMadeBy p h a fr.locals.this) it makes in
+          let made = subst (λ (a : Action). IsMadeByNew p h a fr.locals.this) it makes in
           let m_is = named_is m (ap called_method it) in
           let self : fr.locals.this ≡ values.Object o = made.1 ∙ ap values.Object (self_is it made root') in
           let class : n.class ≡ y.class = (let both : Some n.class ≡ Some carried.0.class = sym (ap class_of_method named_at) ∙ sym (ap (λ (z : MethodId). class_of_method (method_at p z)) m_is) ∙ made.3 carried.0

@@ -13,8 +13,8 @@ use Rattle.ledger_obligations.specs.Bodies.{reset_in}
 use Rattle.ledger_obligations.specs.MustCallSets.{is_heavy_class, must_of}
 use Rattle.java_control.specs.Calls.{called_method}
 use Rattle.java_control.specs.Control.{Step}
-use Rattle.java_control.specs.declared.action.Action.{Action}
-use Rattle.java_control.specs.declared.action.Action.TheVariants as actions
+use Rattle.control_actions.specs.declared.action.Action.{Action}
+use Rattle.control_actions.specs.declared.action.Action.TheVariants as actions
 use Rattle.ownership_rules.specs.Callees.{callee, callee_in}
 use Rattle.ledger_state.specs.Classes.{class_in}
 use Rattle.ledger_state.specs.Contents.{HeapContents}

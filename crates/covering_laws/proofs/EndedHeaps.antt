@@ -1,12 +1,12 @@
 -- The heap that the end of a call leaves: ways up end, what constructors make is not finished, and nobody owns what is not.
-use Rattle.std.proofs.Common.{◌≡◌, ◌⊎◌, inl, inr, ℕ, Bool, true, false, true≢false, Option, None, Some, List, [], ◌∷◌, refl, sym, ap, ◌∙◌}
+use Rattle.std.proofs.Common.{◌≡◌, inl, inr, ℕ, Bool, true, false, true≢false, Option, None, Some, List, [], ◌∷◌, refl, sym, ap, ◌∙◌}
 use Rattle.std.proofs.lemmas.List.Elements.{All-head, All-tail}
 use Rattle.program_model.specs.declared.kinds.ClassId.{ClassId}
 use Rattle.program_model.specs.declared.program.Method.{Method}
 use Rattle.program_model.specs.declared.program.Program.{Program}
 use Rattle.program_model.specs.Lookups.{method_at}
 use Rattle.ledger_obligations.specs.Bodies.{constructs}
-use Rattle.java_control.specs.declared.action.Action.{Action}
+use Rattle.control_actions.specs.declared.action.Action.{Action}
 use Rattle.ledger_state.specs.Contents.{HeapContents}
 use Rattle.ledger_state.specs.Heaps.{object_at, unfinished}
 use Rattle.ledger_state.specs.Values.{number_of}
@@ -22,11 +22,9 @@ use Rattle.value_laws.specs.Chains.{HaveEnds, IsLast}
 use Rattle.value_laws.specs.Configuration.{Frame}
 use Rattle.value_laws.specs.FieldContents.{AreUnfinished, DeclaresOwning, RunOnOthers, is_new}
 use Rattle.value_laws.specs.HeapAnew.{is_field_owner}
-use Rattle.value_laws.specs.Holders.{UnfinishedAreUnowned}
 use Rattle.value_laws.specs.Ranges.{LocalsInRange}
 use Rattle.value_laws.proofs.Chains.{IsLastOwned, IsOwnedAs, ends_on, object_there}
 use Rattle.value_laws.proofs.Growth.{returned_grows}
-use Rattle.covering_laws.proofs.AlikeHeaps.{AreAlike}
 use Rattle.covering_laws.proofs.EndOwners.{end_owner}
 use Rattle.covering_laws.proofs.LocalSteps.{LocalsIn}
 use Rattle.covering_laws.proofs.StepWays.{end_births, end_unowned}
@@ -82,9 +80,3 @@ unfinished_but p h k apart stays (fr ∷ frs) others in' unready = (
         let class : ClassId = record { 0 = 0 } in
         let there = object_there h w (unfinished class) number.0 number.1 in
         stays w there.0 y (λ is. (others w is).0 this) there.1 now (unready.0 w there.0 declares makes this there.1)
-
--- ---- heaps that are alike
-
--- nobody owns what is not finished in a heap that is like one of which that is so
-pub alike_unowned : (h k : HeapContents) → AreAlike h k → UnfinishedAreUnowned h → UnfinishedAreUnowned k
-alike_unowned h k alike before o y now open' = let x = alike.back o y now in x.2.owner ∙ before o x.0 x.1 (sym x.2.finished ∙ open')

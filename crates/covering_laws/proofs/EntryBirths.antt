@@ -15,11 +15,11 @@ use Rattle.program_model.specs.Lookups.{body_at, method_at, optional}
 use Rattle.program_model.specs.Overrides.{are_types, is_type}
 use Rattle.ledger_obligations.specs.Bodies.{fields_of, is_constructor_kind}
 use Rattle.ledger_obligations.specs.OverrideCases.{differ, has_other_owning}
-use Rattle.java_control.specs.declared.fact.Fact.{Fact}
-use Rattle.java_control.specs.declared.fact.Mode.TheVariants as modes
-use Rattle.java_control.specs.declared.fact.OriginKind.TheVariants as kinds
-use Rattle.java_control.specs.declared.fact.Origin.{Origin}
-use Rattle.java_control.specs.declared.place.Place.TheVariants as places
+use Rattle.control_actions.specs.declared.fact.Fact.{Fact}
+use Rattle.control_actions.specs.declared.fact.Mode.TheVariants as modes
+use Rattle.control_actions.specs.declared.fact.OriginKind.TheVariants as kinds
+use Rattle.control_actions.specs.declared.fact.Origin.{Origin}
+use Rattle.control_actions.specs.declared.place.Place.TheVariants as places
 use Rattle.ownership_rules.specs.Births.{births_at_entry, method_mode, entry_births_in, entry_births_of, field_birth, held_births, parameter_births, this_birth, this_mode, parameter_mode, origin_of, fact_at, has_this}
 use Rattle.ledger_state.specs.Values.{value_or_nothing}
 use Rattle.ledger_state.specs.declared.value.Value.{Value}

@@ -2,10 +2,9 @@
 use Rattle.std.specs.Prelude.{◌&&◌, if◌then◌else◌}
 use Rattle.std.specs.List.{All, find}
 use Rattle.std.specs.Option.{unwrap_or}
-use Rattle.std.proofs.Common.{◌≡◌, ◌⊎◌, inl, inr, ℕ, ◌<◌, ◌≤◌, Bool, true, false, not, true≢false, Option, Some, None, List, [], ◌∷◌, nat_eq, eq-eqb, eqb-true, refl, sym, ap, ◌∙◌, subst}
+use Rattle.std.proofs.Common.{◌≡◌, ◌⊎◌, inl, inr, ℕ, ◌<◌, Bool, true, false, not, true≢false, Option, Some, None, List, [], ◌∷◌, nat_eq, eq-eqb, eqb-true, refl, sym, ap, ◌∙◌, subst}
 use Rattle.std.proofs.lemmas.Bool.{and_parts}
 use Rattle.std.proofs.lemmas.List.Elements.{All-head, All-tail}
-use Rattle.program_model.specs.declared.kinds.ClassId.{ClassId}
 use Rattle.program_model.specs.declared.kinds.FieldId.{FieldId}
 use Rattle.program_model.specs.declared.kinds.VType.{VType}
 use Rattle.program_model.specs.declared.kinds.VType.TheVariants as types
@@ -31,7 +30,6 @@ use Rattle.value_laws.specs.Heaps.{HasEarlierLinks}
 use Rattle.value_laws.specs.Holders.{UnfinishedAreUnowned}
 use Rattle.value_laws.specs.PlaceFacts.{MayStore, OwesOrHolds, is_frame_from, is_heavy_in}
 use Rattle.value_laws.specs.Ranges.{FieldsInRange, IsNumber, IsStoredInRange}
-use Rattle.value_laws.proofs.Chains.{object_there}
 use Rattle.covering_laws.specs.TextUpdates.{HoldsOrTakesText}
 use Rattle.covering_laws.proofs.Owners.{HoldersStay, HoldersWere, OwnerGoes, OwnersGo, held_at, holders_stay, left, passed, stays}
 use Rattle.covering_laws.proofs.TextStores.{no_root}
@@ -69,9 +67,6 @@ found_in h w f c (s ∷ xs) d all is = go (is_field_of w f s) refl is (found_in 
 -- an object that a field holds, and the field's, are there
 pub held_in_range : (p : Program) (h : HeapContents) (w : ℕ) (f : FieldId) (c : ℕ) → FieldsInRange h → field_value p h w f ≡ values.Object c → IsNumber h w × IsNumber h c
 held_in_range p h w f c ranges is = elim (found_in h w f c h.fields (default_in (field_at p f)) ranges is) [ inl none ↦ absurd (default_holds_none (field_at p f) c none) | inr both ↦ both ]
-
-number_there : (h : HeapContents) (n : ℕ) → IsNumber h n → (x : Object) × (object_at h n ≡ Some x)
-number_there h n number = let class : ClassId = record { 0 = 0 } in object_there h n (unfinished class) number.0 number.1
 
 -- ---- what a step keeps
 

@@ -1,6 +1,6 @@
 -- As a call ends: what owning fields hold they own, those of the object too that a `new` has made.
 use Rattle.std.specs.Prelude.{is_some, not}
-use Rattle.std.proofs.Common.{◌≡◌, ◌⊎◌, inl, inr, ℕ, zero, suc, ◌+◌, ◌<◌, Bool, true, false, ◌&&◌, true≢false, Option, Some, None, List, ◌∷◌, nat_eq, eq-eqb, eqb-true, slice_get, refl, sym, ap, ◌∙◌, subst}
+use Rattle.std.proofs.Common.{◌≡◌, ◌⊎◌, inl, inr, ℕ, zero, suc, ◌+◌, Bool, true, false, ◌&&◌, true≢false, Option, Some, None, List, ◌∷◌, nat_eq, eq-eqb, eqb-true, slice_get, refl, sym, ap, ◌∙◌, subst}
 use Rattle.std.proofs.lemmas.Bool.{and_from}
 use Rattle.program_model.specs.declared.kinds.BodyId.{BodyId}
 use Rattle.program_model.specs.declared.kinds.ClassId.{ClassId}
@@ -16,11 +16,11 @@ use Rattle.ownership_rules.specs.Signatures.{is_present}
 use Rattle.ownership_rules.specs.Facts.{has, is_held, is_origin_at}
 use Rattle.java_control.specs.Control.{Step}
 use Rattle.java_control.specs.Owned.{field_number, is_owning, is_owning_field, place_of_field}
-use Rattle.java_control.specs.declared.action.Action.{Action}
-use Rattle.java_control.specs.declared.action.Action.TheVariants as actions
-use Rattle.java_control.specs.declared.fact.Mode.{Mode}
-use Rattle.java_control.specs.declared.fact.Mode.TheVariants as modes
-use Rattle.java_control.specs.declared.place.Place.TheVariants as places
+use Rattle.control_actions.specs.declared.action.Action.{Action}
+use Rattle.control_actions.specs.declared.action.Action.TheVariants as actions
+use Rattle.control_actions.specs.declared.fact.Mode.{Mode}
+use Rattle.control_actions.specs.declared.fact.Mode.TheVariants as modes
+use Rattle.control_actions.specs.declared.place.Place.TheVariants as places
 use Rattle.ledger_state.specs.Contents.{HeapContents}
 use Rattle.ledger_state.specs.Fields.{field_value}
 use Rattle.ledger_state.specs.Heaps.{object_at, root, root_of}
@@ -36,7 +36,7 @@ use Rattle.ledger_steps.specs.Ends.{frame_gone, result_moved, returned_heap}
 use Rattle.ledger_steps.specs.LedgerCallsCalls as calls
 use Rattle.ledger_steps.specs.LedgerCallsCalls.{alias_target, is_alias, object_by, operand_of, reset_position}
 use Rattle.value_laws.specs.Accept.{Accept}
-use Rattle.value_laws.specs.Agreement.{IsMadeBy, RunsItself, Stands}
+use Rattle.value_laws.specs.Agreement.{IsMadeByNew, RunsItself, Stands}
 use Rattle.value_laws.specs.Arguments.{HasArguments}
 use Rattle.value_laws.specs.Chains.{HaveEnds}
 use Rattle.value_laws.specs.Choosing.{body_id, frame_steps}
@@ -55,6 +55,7 @@ use Rattle.value_laws.proofs.HeapLaws.{numbers_are_in_range}
 use Rattle.value_laws.proofs.KeptFacts.{held_is_argument, this_stays}
 use Rattle.value_laws.proofs.Returned.{end_back, gone_back, result_back}
 use Rattle.value_laws.proofs.RootLaws.{one_object}
+use Rattle.covering_laws.proofs.AliasedResets.{aliased_resets_nothing}
 use Rattle.covering_laws.proofs.Constructors.{parameter_holds, spoken}
 use Rattle.covering_laws.proofs.EndOwners.{number_value, same_new}
 use Rattle.covering_laws.proofs.MakersOwning.{all_made_kept, makers_own_on}
@@ -74,7 +75,7 @@ some_method : (m : Option Method) → constructs m ≡ true → (x : Method) × 
 some_method None none = absurd (true≢false (sym none))
 some_method (Some x) is = (x, refl)
 
-module _ (p : Program) (ac : Accept p) (forms : HasPlainForms p) (h : HeapContents) (old : ℕ → Bool) (frs : List Frame) (fr : Frame) (st : Stands p fr) (covered : IsCovered p h gives_none renews_none old frs fr) (keeps : lends_this p fr ≡ false) (w : ℕ) (this : fr.locals.this ≡ values.Object w)
+module _ (p : Program) (ac : Accept p) (h : HeapContents) (old : ℕ → Bool) (frs : List Frame) (fr : Frame) (st : Stands p fr) (covered : IsCovered p h gives_none renews_none old frs fr) (keeps : lends_this p fr ≡ false) (w : ℕ) (this : fr.locals.this ≡ values.Object w)
     (constructor : constructs (method_at p fr.method) ≡ true) (f : FieldId) (owning : is_owning p f ≡ true) (heavy : is_heavy_in p (Some f) ≡ true) (here : HasPlace p fr f) (o : ℕ) (x : Object)
     (held : root_of h (field_value p h w f) ≡ Some o) (at : object_at h o ≡ Some x) (wide : is_heavy_class p x.class ≡ true) (owes : OwesOrHolds p h o x) where
   cover : (c : Covers p h false false old frs fr o x) × (has c.fact.places (place_of_field p f) ≡ true)
@@ -101,7 +102,7 @@ module _ (p : Program) (ac : Accept p) (forms : HasPlainForms p) (h : HeapConten
       owned_at p fr x.owner w f this field.0 (one_field p fr st ac c.fact.places x.owner field f here cover.1)
 
   of_argument : (n : ℕ) → alias_position p st.number ≡ Some n → is_origin_at c.origin.kind (alias_position p st.number) ≡ true
-  of_argument n some = held_is_argument p ac st.number st.body method.0 st.at (ap (method_at p) st.method ∙ method.1) aliased (λ k n t comes there. forms.aliased st.number n t comes there aliased) c.origin fr.control c.fact reached was.0
+  of_argument n some = held_is_argument p ac st.number st.body method.0 st.at (ap (method_at p) st.method ∙ method.1) aliased (λ k n t comes there. aliased_resets_nothing p ac st.number n t comes there aliased) c.origin fr.control c.fact reached was.0
     where
       aliased : is_alias_constructor p st.number ≡ true
       aliased = and_from (is_constructor p st.number) (is_present (alias_position p st.number)) (ap constructs (method_here p fr st) ∙ constructor) (ap is_present some)
@@ -117,7 +118,7 @@ module _ (p : Program) (ac : Accept p) (forms : HasPlainForms p) (h : HeapConten
 
 module _ (p : Program) (ac : Accept p) (forms : HasPlainForms p) (h : HeapContents) (links : HasEarlierLinks h) (ranges : FieldsInRange h) (have : HaveEnds h) (fr caller : Frame) (old : ℕ → Bool) (rest : List Frame) (st : Stands p fr)
     (covered : IsCovered p h gives_none renews_none old (caller ∷ rest) fr) (keeps_mine : lends_this p fr ≡ false) (args : HasArguments p caller fr) (j : ℕ) (t : Step) (there : slice_get (frame_steps p caller) j ≡ Some t) (named : MethodId)
-    (makes : IsMadeBy p h t.action fr.locals.this) (itself : RunsItself t.action named fr.method) (constructor : is_new t.action ≡ true → constructs (method_at p fr.method) ≡ true) (named_makes : (m : MethodId) (d n : ℕ) → t.action ≡ actions.New m d n → m ≡ named)
+    (makes : IsMadeByNew p h t.action fr.locals.this) (itself : RunsItself t.action named fr.method) (constructor : is_new t.action ≡ true → constructs (method_at p fr.method) ≡ true) (named_makes : (m : MethodId) (d n : ℕ) → t.action ≡ actions.New m d n → m ≡ named)
     (plain : Option Method) (alias : calls.alias_position plain ≡ alias_in (method_at p named)) (no_reset : reset_position plain ≡ None) (at : ℕ) (v : Value) (e : Option ClassId)
     (unmade : (w : ℕ) (x : Object) → is_new t.action ≡ true → fr.locals.this ≡ values.Object w → object_at h w ≡ Some x → x.finished ≡ false)
     (mine : (n : ℕ) (x u : Object) → object_at h n ≡ Some x → is_heavy_class p x.class ≡ true → may_owe x ≡ true → IsReturned p at (method_at p fr.method) v e h n x u → x.owner ≡ owners.Frame (at + 1)) where
@@ -143,7 +144,7 @@ module _ (p : Program) (ac : Accept p) (forms : HasPlainForms p) (h : HeapConten
   class_is : (w : ℕ) (z : Object) → is_new t.action ≡ true → fr.locals.this ≡ values.Object w → object_at h w ≡ Some z → class_of_method (method_at p fr.method) ≡ Some z.class
   class_is w z new this before = go t.action refl new makes
     where
-      go : (a : Action) → t.action ≡ a → is_new a ≡ true → IsMadeBy p h a fr.locals.this → class_of_method (method_at p fr.method) ≡ Some z.class
+      go : (a : Action) → t.action ≡ a → is_new a ≡ true → IsMadeByNew p h a fr.locals.this → class_of_method (method_at p fr.method) ≡ Some z.class
       go actions.Skip is one made = absurd (true≢false (sym one))
       go (actions.New m d n) is one made =
           let number : made.0 ≡ w = (let both : values.Object made.0 ≡ values.Object w = sym made.1 ∙ this in (let it : made.0 ≡ w = cc in it)) in
@@ -273,17 +274,17 @@ module _ (p : Program) (ac : Accept p) (forms : HasPlainForms p) (h : HeapConten
         earlier_wide = ap (is_heavy_class p) (sym earlier.2) ∙ wide
 
         owned_alone : alias_position p st.number ≡ None → x.owner ≡ owners.Field w f
-        owned_alone none = normal_keeps normal o earlier.0 x w f earlier.1 at' earlier_wide (alone_owns p ac forms h old (caller ∷ rest) fr st covered keeps_mine w this (constructor new) f owning heavy here o earlier.0 held earlier.1 earlier_wide (earlier.3 owes) none)
+        owned_alone none = normal_keeps normal o earlier.0 x w f earlier.1 at' earlier_wide (alone_owns p ac h old (caller ∷ rest) fr st covered keeps_mine w this (constructor new) f owning heavy here o earlier.0 held earlier.1 earlier_wide (earlier.3 owes) none)
 
         argument_held : (i : ℕ) → alias_position p st.number ≡ Some (suc i) → root_of h (operand_of caller.locals t.action (suc i)) ≡ Some o
         argument_held i some =
             let method = some_method (method_at p fr.method) (constructor new) in
             ap (root_of h) (sym (args.parameters j t method.0 i there method.1 (spoken p ac fr st method.0 method.1 i (constructor new) some)))
-            ∙ parameter_has p ac forms h old (caller ∷ rest) fr st covered keeps_mine w this (constructor new) f owning heavy here o earlier.0 held earlier.1 earlier_wide (earlier.3 owes) i some
+            ∙ parameter_has p ac h old (caller ∷ rest) fr st covered keeps_mine w this (constructor new) f owning heavy here o earlier.0 held earlier.1 earlier_wide (earlier.3 owes) i some
 
         itself_held : alias_position p st.number ≡ Some 0 → root h w ≡ o
         itself_held some =
-            let both : Some (root h w) ≡ Some o = ap (root_of h) (sym this) ∙ this_has p ac forms h old (caller ∷ rest) fr st covered keeps_mine w this (constructor new) f owning heavy here o earlier.0 held earlier.1 earlier_wide (earlier.3 owes) some in
+            let both : Some (root h w) ≡ Some o = ap (root_of h) (sym this) ∙ this_has p ac h old (caller ∷ rest) fr st covered keeps_mine w this (constructor new) f owning heavy here o earlier.0 held earlier.1 earlier_wide (earlier.3 owes) some in
             (let one : root h w ≡ o = cc in one)
 
       -- it is linked to none

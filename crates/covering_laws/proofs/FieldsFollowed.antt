@@ -1,7 +1,7 @@
 -- In a method that creates the obligation of `this` not anew, the place of each owning field of a class type is in a fact that says that the field holds its object, at each control to which a path brings the
 -- fact of `this`: such a fact is born at the method's entry, and anew behind each call that creates the obligation of `this` anew, and the place leaves it nowhere else.
-use Rattle.std.specs.Prelude.{◌||◌, if◌then◌else◌}
-use Rattle.std.proofs.Common.{◌≡◌, ◌⊎◌, inl, inr, ℕ, ◌<◌, Bool, true, false, Option, Some, None, List, slice_get, refl, sym, ap, ◌∙◌, subst, true≢false}
+use Rattle.std.specs.Prelude.{if◌then◌else◌}
+use Rattle.std.proofs.Common.{◌≡◌, ◌⊎◌, inl, inr, ℕ, ◌<◌, Bool, true, false, Some, None, List, slice_get, refl, sym, ap, ◌∙◌, subst, true≢false}
 use Rattle.std.specs.FinSet as set
 use Rattle.program_model.specs.declared.kinds.BodyId.{BodyId}
 use Rattle.program_model.specs.declared.kinds.ClassId.{ClassId}
@@ -18,21 +18,21 @@ use Rattle.java_control.specs.Calls.{is_reset_of_this}
 use Rattle.java_control.specs.Owned.{place_of_field}
 use Rattle.java_control.specs.PlaceNumbers.{IsSmall, number_of}
 use Rattle.java_control.specs.Remaining.{Todo}
-use Rattle.java_control.specs.declared.action.Action.{Action}
-use Rattle.java_control.specs.declared.action.Action.TheVariants as actions
-use Rattle.java_control.specs.declared.action.Completion.{Completion}
-use Rattle.java_control.specs.declared.action.Edge.{Edge}
-use Rattle.java_control.specs.declared.action.Edge.TheVariants as edges
-use Rattle.java_control.specs.declared.fact.Fact.{Fact}
-use Rattle.java_control.specs.declared.fact.Mode.TheVariants as modes
-use Rattle.java_control.specs.declared.fact.Origin.{Origin}
-use Rattle.java_control.specs.declared.fact.OriginKind.{OriginKind}
-use Rattle.java_control.specs.declared.fact.OriginKind.TheVariants as kinds
-use Rattle.java_control.specs.declared.place.Place.{Place}
-use Rattle.java_control.specs.declared.place.Place.TheVariants as places
+use Rattle.control_actions.specs.declared.action.Action.{Action}
+use Rattle.control_actions.specs.declared.action.Action.TheVariants as actions
+use Rattle.control_actions.specs.declared.action.Completion.{Completion}
+use Rattle.control_actions.specs.declared.action.Edge.{Edge}
+use Rattle.control_actions.specs.declared.action.Edge.TheVariants as edges
+use Rattle.control_actions.specs.declared.fact.Fact.{Fact}
+use Rattle.control_actions.specs.declared.fact.Mode.TheVariants as modes
+use Rattle.control_actions.specs.declared.fact.Origin.{Origin}
+use Rattle.control_actions.specs.declared.fact.OriginKind.{OriginKind}
+use Rattle.control_actions.specs.declared.fact.OriginKind.TheVariants as kinds
+use Rattle.control_actions.specs.declared.place.Place.{Place}
+use Rattle.control_actions.specs.declared.place.Place.TheVariants as places
 use Rattle.ledger_obligations.specs.Bodies.{fields_of, has_field_place, is_constructor, resets_this}
-use Rattle.java_control.specs.declared.fact.Outcome.{Outcome}
-use Rattle.java_control.specs.declared.fact.Outcome.TheVariants.{Next, Gone, Fault}
+use Rattle.control_actions.specs.declared.fact.Outcome.{Outcome}
+use Rattle.control_actions.specs.declared.fact.Outcome.TheVariants.{Next, Gone, Fault}
 use Rattle.ledger_obligations.specs.MustCallSets.{Names, no_names}
 use Rattle.ownership_rules.specs.Births.{born_in, class_of, field_birth, origin_of, owning_field_birth}
 use Rattle.ownership_rules.specs.Facts.{PlaceSet, has, is_held, is_origin_at, position_of, without}
@@ -55,6 +55,7 @@ use Rattle.value_laws.proofs.Flows.{IfNext, end_none}
 use Rattle.value_laws.proofs.FactOrigins.{comes}
 use Rattle.value_laws.proofs.Going.{held_stays, left_as, other_steps}
 use Rattle.value_laws.proofs.KeptFacts.{this_stays}
+use Rattle.value_laws.proofs.LastingSteps.{RowOf, call, end, plain, row_of, store}
 use Rattle.value_laws.proofs.OtherPlaces.{left_aside, stays_aside}
 use Rattle.value_laws.proofs.PlaceLaws.{places_stay_in_range, single_place-alone, single_place-has, single_place-same}
 use Rattle.value_laws.proofs.Reached.{typed_step}
@@ -143,33 +144,6 @@ module _ (p : Program) (b : BodyId) (o : Origin) (f : Fact) (q : Place) (inside 
   call_after : (a : Action) (e : Edge) → IsCallRow a → has (places_after p b a e f.places) q ≡ true → After (IsFieldFact (places_after p b a e f.places)) (flow p b o a e f)
   call_after a e row is =
       after_call (places_after p b a e f.places) (called_after p b a e f) (λ (g : Fact). is_target p a f.places ≡ true → GoesAnew p b o a f (places_after p b a e f.places) g) (flow p b o a e f) is (call_goes_so p b o a e f q row is)
-
--- which row it is
-data RowOf (a : Action) : Type 0 where
-  plain : IsPlainRow a → RowOf a
-  call : IsCallRow a → RowOf a
-  store : (g : FieldId) (d : ℕ) → a ≡ actions.PutOwn g d → RowOf a
-  end : (c : Completion) → a ≡ actions.End c → RowOf a
-
-row_of : (a : Action) → RowOf a
-row_of actions.Skip = plain tt
-row_of (actions.Copy x y) = plain tt
-row_of (actions.Move x y) = plain tt
-row_of (actions.Plain x v) = plain tt
-row_of (actions.Drop s) = plain tt
-row_of (actions.Settle d c) = plain tt
-row_of (actions.Enter clause x d n) = plain tt
-row_of (actions.Test d) = plain tt
-row_of (actions.Op k d n) = plain tt
-row_of (actions.Get g d this) = plain tt
-row_of (actions.Put g d this) = plain tt
-row_of (actions.Cast t d) = plain tt
-row_of (actions.Raise d c) = plain tt
-row_of (actions.PutOwn g d) = store g d refl
-row_of (actions.Call m d n form) = call tt
-row_of (actions.New m d n) = call tt
-row_of (actions.Super m d n) = call tt
-row_of (actions.End c) = end c refl
 
 -- ---- paths
 

@@ -16,12 +16,12 @@ use Rattle.ledger_obligations.specs.MustCallSets.{Names, is_heavy_class}
 use Rattle.ownership_rules.specs.Signatures.{is_of_field, names_of_all, when}
 use Rattle.java_control.specs.Control.{Step}
 use Rattle.java_control.specs.Owned.{place_of_field}
-use Rattle.java_control.specs.declared.action.Action.{Action}
-use Rattle.java_control.specs.declared.action.Action.TheVariants as actions
-use Rattle.java_control.specs.declared.action.Completion.{Completion}
-use Rattle.java_control.specs.declared.action.Completion.TheVariants as completions
-use Rattle.java_control.specs.declared.fact.Mode.TheVariants as modes
-use Rattle.java_control.specs.declared.fact.OriginKind.{OriginKind}
+use Rattle.control_actions.specs.declared.action.Action.{Action}
+use Rattle.control_actions.specs.declared.action.Action.TheVariants as actions
+use Rattle.control_actions.specs.declared.action.Completion.{Completion}
+use Rattle.control_actions.specs.declared.action.Completion.TheVariants as completions
+use Rattle.control_actions.specs.declared.fact.Mode.TheVariants as modes
+use Rattle.control_actions.specs.declared.fact.OriginKind.{OriginKind}
 use Rattle.ownership_rules.specs.Facts.{PlaceSet, are_position, has, is_held, is_met, is_origin_at, need, owes, position_of}
 use Rattle.value_laws.specs.Promises.{is_of_held_field, promised_at_end, promised_by_end, promised_by_throw, promised_on_both, promised_on_fields, promised_on_position}
 use Rattle.value_laws.specs.Ends.{constructor_throws, is_throw}

@@ -11,8 +11,8 @@ use Rattle.ledger_obligations.specs.Bodies.{reset_in}
 use Rattle.ledger_obligations.specs.MustCallSets.{fits_type}
 use Rattle.java_control.specs.Calls.{operand_at}
 use Rattle.java_control.specs.Control.{Step}
-use Rattle.java_control.specs.declared.action.Action.{Action}
-use Rattle.java_control.specs.declared.place.Place.TheVariants as places
+use Rattle.control_actions.specs.declared.action.Action.{Action}
+use Rattle.control_actions.specs.declared.place.Place.TheVariants as places
 use Rattle.value_laws.specs.Accept.{Accept}
 use Rattle.ownership_rules.specs.Callees.{callee}
 use Rattle.ownership_rules.specs.SmallActions.{IsSmallAction, IsSmallTemp}

@@ -1,5 +1,5 @@
 -- What an owning field of `this` holds in a frame that has a place for the field.
-use Rattle.std.proofs.Common.{◌≡◌, ◌⊎◌, inl, inr, ℕ, ◌<◌, Bool, true, false, not, ◌&&◌, ◌||◌, ◌+◌, Option, Some, None, List, slice_get, refl, sym, ap, ◌∙◌, subst, true≢false, eqb-true}
+use Rattle.std.proofs.Common.{◌≡◌, ◌⊎◌, inl, inr, ℕ, ◌<◌, Bool, true, false, not, ◌&&◌, ◌||◌, Option, Some, None, List, slice_get, refl, sym, ap, ◌∙◌, subst, true≢false, eqb-true}
 use Rattle.std.specs.FinSet as set
 use Rattle.std.proofs.lemmas.Bool.{and_parts, not-true, or_left, or_right, and_from}
 use Rattle.rlc_base.proofs.SetLaws.{empty_within, union_monotone, union_within, within_self, within_trans}
@@ -16,14 +16,14 @@ use Rattle.ledger_obligations.specs.Bodies.{alias_in, constructs, has_field_plac
 use Rattle.ledger_obligations.specs.MustCallSets.{Names, fits_type, is_empty, is_heavy_class, must_of, must_of_optional, no_names}
 use Rattle.ownership_rules.specs.Signatures.{field_type, is_present}
 use Rattle.java_control.specs.Owned.{field_number, place_of_field}
-use Rattle.java_control.specs.declared.fact.Fact.{Fact}
-use Rattle.java_control.specs.declared.fact.Mode.{Mode}
-use Rattle.java_control.specs.declared.fact.Mode.TheVariants as modes
-use Rattle.java_control.specs.declared.fact.Origin.{Origin}
-use Rattle.java_control.specs.declared.fact.OriginKind.{OriginKind}
-use Rattle.java_control.specs.declared.fact.OriginKind.TheVariants as kinds
-use Rattle.java_control.specs.declared.place.Place.{Place}
-use Rattle.java_control.specs.declared.place.Place.TheVariants as places
+use Rattle.control_actions.specs.declared.fact.Fact.{Fact}
+use Rattle.control_actions.specs.declared.fact.Mode.{Mode}
+use Rattle.control_actions.specs.declared.fact.Mode.TheVariants as modes
+use Rattle.control_actions.specs.declared.fact.Origin.{Origin}
+use Rattle.control_actions.specs.declared.fact.OriginKind.{OriginKind}
+use Rattle.control_actions.specs.declared.fact.OriginKind.TheVariants as kinds
+use Rattle.control_actions.specs.declared.place.Place.{Place}
+use Rattle.control_actions.specs.declared.place.Place.TheVariants as places
 use Rattle.ownership_rules.specs.Facts.{has, is_held, is_own}
 use Rattle.value_laws.specs.Accept.{Accept}
 use Rattle.ledger_state.specs.Contents.{HeapContents}
@@ -103,10 +103,6 @@ own_claims p m o g own heavy = rw (heavy, own) refl
 -- elsewhere it tells what was called
 pub held_tells : (p : Program) (m : MethodId) (o : Origin) (g : Fact) → answers_for_fields (method_at p m) ≡ false → g.mode ≡ modes.Held → tells_calls p m o g ≡ true
 held_tells p m o g other held = and_from (is_lent p (method_at p m) o.kind || is_held g.mode) (not (is_held g.mode && answers_for_fields (method_at p m))) (or_right (is_lent p (method_at p m) o.kind) (is_held g.mode) (ap is_held held)) (rw (held, other) refl)
-
--- a constructor makes alone or not
-pub plain_not_alone : (m : Option Method) → constructs m ≡ false → makes_alone m ≡ false
-plain_not_alone m plain = rw plain refl
 
 -- a constructor without an aliased argument
 pub makes_alone_by : (m : Option Method) → constructs m ≡ true → alias_in m ≡ None → makes_alone m ≡ true
@@ -286,5 +282,5 @@ owning_in_no_field p h away anew old frs fr o x c owning k inside there =
 -- ---- what the frame may count on
 
 -- what was old and is spared, and was not given up, where something is said of it
-pub apart_held : (p : Program) (h : HeapContents) (old : ℕ → Bool) (frs : List Frame) (fr : Frame) (o : ℕ) (x : Object) (f : Fact) → is_idle p frs fr f ≡ false → IsCountedOn p h old frs fr o x → IsApart p h old frs fr o x.owner f
+pub apart_held : (p : Program) (h : HeapContents) (old : ℕ → Bool) (frs : List Frame) (fr : Frame) (o : ℕ) (x : Object) (f : Fact) → is_idle p frs fr f ≡ false → IsCountedOn p h old frs fr o x → IsApart p h old frs fr o f
 apart_held p h old frs fr o x f said counted = (counted.0, counted.1, counted.2, said)

@@ -9,8 +9,8 @@ use Rattle.ledger_obligations.specs.Bodies.{constructs, has_field_place}
 use Rattle.ledger_obligations.specs.MustCallSets.{is_heavy_class}
 use Rattle.java_control.specs.Calls.{is_reset_of_this}
 use Rattle.java_control.specs.Control.{Step}
-use Rattle.java_control.specs.declared.fact.Fact.{Fact}
-use Rattle.java_control.specs.declared.fact.Origin.{Origin}
+use Rattle.control_actions.specs.declared.fact.Fact.{Fact}
+use Rattle.control_actions.specs.declared.fact.Origin.{Origin}
 use Rattle.ownership_rules.specs.Facts.{is_held}
 use Rattle.value_laws.specs.Accept.{Accept}
 use Rattle.value_laws.specs.Agreement.{Stands}

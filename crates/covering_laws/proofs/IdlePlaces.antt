@@ -1,33 +1,25 @@
 -- A method of which nothing is said of what fields hold, since something may be stored into the fields of its `this` while it runs: the place of each owning field is in a fact that claims nothing, whatever it holds.
-use Rattle.std.proofs.Common.{◌≡◌, ◌⊎◌, inl, inr, ℕ, ◌<◌, Bool, true, false, not, ◌&&◌, ◌||◌, Option, Some, None, List, refl, sym, ap, ◌∙◌, subst, true≢false}
-use Rattle.std.proofs.lemmas.Bool.{and_from, and_parts, not-true}
+use Rattle.std.proofs.Common.{◌≡◌, ℕ, ◌<◌, Bool, true, false, not, ◌&&◌, ◌||◌, Option, Some, None, List, refl, sym, ap, ◌∙◌, true≢false}
 use Rattle.program_model.specs.declared.kinds.BodyId.{BodyId}
 use Rattle.program_model.specs.declared.kinds.ClassId.{ClassId}
 use Rattle.program_model.specs.declared.kinds.FieldId.{FieldId}
 use Rattle.program_model.specs.declared.program.Method.{Method}
 use Rattle.program_model.specs.declared.program.Program.{Program}
 use Rattle.program_model.specs.Lookups.{method_at}
-use Rattle.java_control.specs.PlaceNumbers.{IsSmall}
-use Rattle.java_control.specs.declared.fact.Fact.{Fact}
-use Rattle.java_control.specs.declared.fact.Mode.{Mode}
-use Rattle.java_control.specs.declared.fact.Mode.TheVariants as modes
-use Rattle.java_control.specs.declared.fact.OriginKind.{OriginKind}
-use Rattle.java_control.specs.declared.fact.OriginKind.TheVariants as kinds
-use Rattle.java_control.specs.declared.place.Place.{Place}
-use Rattle.java_control.specs.declared.place.Place.TheVariants as places
+use Rattle.control_actions.specs.declared.fact.Fact.{Fact}
+use Rattle.control_actions.specs.declared.fact.Mode.TheVariants as modes
+use Rattle.control_actions.specs.declared.place.Place.TheVariants as places
 use Rattle.ledger_obligations.specs.Bodies.{alias_in, constructs}
 use Rattle.ledger_obligations.specs.MustCallSets.{fits_type, is_heavy_class}
-use Rattle.ownership_rules.specs.Facts.{has, is_held, is_own, is_this_origin}
+use Rattle.ownership_rules.specs.Facts.{has, is_held}
 use Rattle.ownership_rules.specs.Signatures.{field_type, is_present}
 use Rattle.ledger_state.specs.Contents.{HeapContents}
-use Rattle.ledger_state.specs.Heaps.{object_at}
 use Rattle.ledger_state.specs.declared.object.Object.{Object}
 use Rattle.value_laws.specs.Choosing.{body_id}
 use Rattle.value_laws.specs.Configuration.{Frame}
-use Rattle.value_laws.specs.PlacePlaces.{is_local}
 use Rattle.value_laws.specs.Places.{owning_field_beside}
 use Rattle.value_laws.specs.PlaceFacts.{Covers, IsUnowned, claims, fits_field, is_heavy_in, is_idle, is_lent, is_settled}
-use Rattle.value_laws.specs.Renewing.{answers_for_fields, is_of_heavy_class, makes_alone, reopens}
+use Rattle.value_laws.specs.Renewing.{answers_for_fields, is_of_heavy_class, reopens}
 use Rattle.covering_laws.proofs.FieldsFollowed.{HasFieldFact}
 
 module _ (p : Program) (frs : List Frame) (fr : Frame) (plain : constructs (method_at p fr.method) ≡ false) (closed : reopens (method_at p fr.method) ≡ false) (heavy : is_of_heavy_class p (method_at p fr.method) ≡ true)

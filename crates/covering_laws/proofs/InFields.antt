@@ -15,12 +15,12 @@ use Rattle.ledger_obligations.specs.Bodies.{has_field_place, is_class_of, is_fie
 use Rattle.java_control.specs.Owned.{field_number, place_of_field}
 use Rattle.java_control.specs.PlaceNumbers.{IsSmall, number_of}
 use Rattle.java_control.specs.Sources.{is_place}
-use Rattle.java_control.specs.declared.fact.Mode.{Mode}
-use Rattle.java_control.specs.declared.fact.Mode.TheVariants as modes
-use Rattle.java_control.specs.declared.fact.OriginKind.{OriginKind}
-use Rattle.java_control.specs.declared.fact.OriginKind.TheVariants as kinds
-use Rattle.java_control.specs.declared.place.Place.{Place}
-use Rattle.java_control.specs.declared.place.Place.TheVariants as places
+use Rattle.control_actions.specs.declared.fact.Mode.{Mode}
+use Rattle.control_actions.specs.declared.fact.Mode.TheVariants as modes
+use Rattle.control_actions.specs.declared.fact.OriginKind.{OriginKind}
+use Rattle.control_actions.specs.declared.fact.OriginKind.TheVariants as kinds
+use Rattle.control_actions.specs.declared.place.Place.{Place}
+use Rattle.control_actions.specs.declared.place.Place.TheVariants as places
 use Rattle.ownership_rules.specs.Facts.{PlaceSet, has, has_field, has_field_from, has_part, is_held, is_origin_at, without, is_own}
 use Rattle.ledger_obligations.specs.MustCallSets.{is_heavy_class}
 use Rattle.ledger_state.specs.Contents.{HeapContents}
@@ -121,14 +121,6 @@ without_among s t z among q small out is = go (eqb (number_of q) (number_of z)) 
     go : (b : Bool) → eqb (number_of q) (number_of z) ≡ b → has (without s z) q ≡ true
     go true same = absurd (true≢false (sym is ∙ gone_without t z q same))
     go false apart = sym (kept_without s z q apart) ∙ among q small out (kept_without t z q apart ∙ is)
-
--- none of them is among fewer
-pub fewer_in_this : (s : PlaceSet) (z : Place) → is_in_this s ≡ false → is_in_this (without s z) ≡ false
-fewer_in_this s z none = out_of_this s (without s z) (λ q small out is. go q is (eqb (number_of q) (number_of z)) refl) none
-  where
-    go : (q : Place) → has (without s z) q ≡ true → (b : Bool) → eqb (number_of q) (number_of z) ≡ b → has s q ≡ true
-    go q is true same = absurd (true≢false (sym is ∙ gone_without s z q same))
-    go q is false apart = kept_without s z q apart ∙ is
 
 -- ---- the field that owns the object
 

@@ -15,15 +15,15 @@ use Rattle.ledger_obligations.specs.MustCallSets.{fits_type, is_heavy_class, mus
 use Rattle.ownership_rules.specs.Signatures.{is_present, type_at, type_of_field}
 use Rattle.java_control.specs.Control.{Step}
 use Rattle.java_control.specs.Owned.{field_number, place_of_field}
-use Rattle.java_control.specs.declared.action.Action.{Action}
-use Rattle.java_control.specs.declared.action.Action.TheVariants as actions
-use Rattle.java_control.specs.declared.action.Completion.{Completion}
-use Rattle.java_control.specs.declared.action.Completion.TheVariants as completions
-use Rattle.java_control.specs.declared.fact.Fact.{Fact}
-use Rattle.java_control.specs.declared.fact.Origin.{Origin}
-use Rattle.java_control.specs.declared.fact.Outcome.TheVariants.{Fault}
-use Rattle.java_control.specs.declared.fact.Rule.TheVariants as rules
-use Rattle.java_control.specs.declared.place.Place.TheVariants as places
+use Rattle.control_actions.specs.declared.action.Action.{Action}
+use Rattle.control_actions.specs.declared.action.Action.TheVariants as actions
+use Rattle.control_actions.specs.declared.action.Completion.{Completion}
+use Rattle.control_actions.specs.declared.action.Completion.TheVariants as completions
+use Rattle.control_actions.specs.declared.fact.Fact.{Fact}
+use Rattle.control_actions.specs.declared.fact.Origin.{Origin}
+use Rattle.control_actions.specs.declared.fact.Outcome.TheVariants.{Fault}
+use Rattle.control_actions.specs.declared.fact.Rule.TheVariants as rules
+use Rattle.control_actions.specs.declared.place.Place.TheVariants as places
 use Rattle.ownership_rules.specs.Facts.{PlaceSet, has, has_field, has_field_from, is_origin_at, missing, owes}
 use Rattle.ownership_rules.specs.SmallActions.{IsSmallAction}
 use Rattle.value_laws.specs.Promises.{broken_promise}
@@ -34,6 +34,7 @@ use Rattle.ownership_rules.specs.declared.moved.Moved.TheVariants as moves
 use Rattle.value_laws.specs.Ends.{after_return, alias_never_returned, constructor_throws, exit_rule, is_throw, left_at_end, promise_at_end}
 use Rattle.value_laws.specs.Flow.{flow}
 use Rattle.value_laws.specs.Paths.{Reach, move_of, relation_of}
+use Rattle.covering_laws.proofs.AliasedResets.{aliased_resets_nothing}
 use Rattle.covering_laws.proofs.SaidFacts.{ends_lend_nothing, no_lent_place, said_by}
 use Rattle.value_laws.specs.Accept.{Accept}
 use Rattle.ledger_state.specs.Contents.{HeapContents}
@@ -135,7 +136,7 @@ module _ (p : Program) (ac : Accept p) (forms : HasPlainForms p) (h : HeapConten
       held_already : (b : Bool) → has cover.fact.places (place_of_field p f) ≡ b → (has cover.fact.places (place_of_field p f) ≡ false → is_heavy_store p cover.origin f ≡ false) → is_origin_at cover.origin.kind (alias_position p st.number) ≡ true
       held_already true in' light =
           let owned = cover.held (field_number p f) mine.small in' (fields.heavy_here p h fr f mine wide) in
-          held_is_argument p ac st.number st.body m st.at of aliased' (λ k n t comes there. forms.aliased st.number n t comes there aliased') cover.origin fr.control cover.fact reached_there owned.0
+          held_is_argument p ac st.number st.body m st.at of aliased' (λ k n t comes there. aliased_resets_nothing p ac st.number n t comes there aliased') cover.origin fr.control cover.fact reached_there owned.0
       held_already false out light = absurd (true≢false (sym (or_right (is_heavy_class p cover.origin.class) (is_heavy_in p (Some f)) wide) ∙ light out))
 
       by : (g : Fact) × Reach p st.number (relation_of p st.number) cover.origin s.to g × stores.Goes p ac forms h old frs fr st covered i d s f here is plainly o x cover g → is_origin_at cover.origin.kind (alias_position p st.number) ≡ true

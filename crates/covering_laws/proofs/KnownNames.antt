@@ -1,6 +1,6 @@
 -- The names that a fact which covers a place knows after a call: its own, that of the method where it has the receiver, and what the
 -- signature promises on the targets that it has.
-use Rattle.std.proofs.Common.{◌≡◌, ℕ, suc, ◌<◌, Bool, true, false, Option, Some, None, List, [], ◌∷◌, slice_get, lt-ltb, nat_lt, refl, sym, ap, ◌∙◌, subst, true≢false, if◌then◌else◌}
+use Rattle.std.proofs.Common.{◌≡◌, ℕ, suc, ◌<◌, Bool, true, false, Option, Some, None, List, [], ◌∷◌, slice_get, nat_lt, refl, sym, ap, ◌∙◌, subst, true≢false, if◌then◌else◌}
 use Rattle.std.specs.FinSet as set
 use Rattle.rlc_base.specs.declared.name_id.NameId.{NameId}
 use Rattle.rlc_base.proofs.SetLaws.{empty_within, insert_within, union_within, within_trans}
@@ -8,18 +8,16 @@ use Rattle.program_model.specs.declared.kinds.BodyId.{BodyId}
 use Rattle.program_model.specs.declared.kinds.MethodId.{MethodId}
 use Rattle.program_model.specs.declared.program.Program.{Program}
 use Rattle.program_model.specs.declared.program.Promise.{Promise}
-use Rattle.ledger_obligations.specs.Bodies.{promises_in, throwing_promises_in}
 use Rattle.ledger_obligations.specs.MustCallSets.{Names, no_names}
 use Rattle.ownership_rules.specs.Signatures.{when}
 use Rattle.java_control.specs.Calls.{operand_at}
-use Rattle.java_control.specs.declared.action.Action.{Action}
-use Rattle.java_control.specs.declared.action.Action.TheVariants as actions
-use Rattle.java_control.specs.declared.action.Edge.{Edge}
-use Rattle.java_control.specs.declared.action.Edge.TheVariants as edges
-use Rattle.java_control.specs.declared.fact.Fact.{Fact}
-use Rattle.java_control.specs.declared.place.Place.TheVariants as places
-use Rattle.ownership_rules.specs.Callees.{callee, holds_operand, is_super_target, may_be_null_target}
-use Rattle.ownership_rules.specs.Facts.{PlaceSet, has, has_temp}
+use Rattle.control_actions.specs.declared.action.Action.{Action}
+use Rattle.control_actions.specs.declared.action.Action.TheVariants as actions
+use Rattle.control_actions.specs.declared.action.Edge.{Edge}
+use Rattle.control_actions.specs.declared.fact.Fact.{Fact}
+use Rattle.control_actions.specs.declared.place.Place.TheVariants as places
+use Rattle.ownership_rules.specs.Callees.{callee, holds_operand, is_super_target}
+use Rattle.ownership_rules.specs.Facts.{PlaceSet, has}
 use Rattle.ownership_rules.specs.SmallActions.{IsSmallAction, IsSmallTemp}
 use Rattle.ownership_rules.proofs.SmallOperands.{operand_has_room}
 use Rattle.value_laws.specs.CalledRows.{called_after, called_at_call, called_by, holds_receiver, holds_target, interest_in, is_emptied, promised_at, promises_at, with_name}
@@ -29,16 +27,10 @@ use Rattle.ledger_state.specs.Locals.{temp_in, temp_value}
 use Rattle.ledger_state.specs.declared.locals.Locals.{Locals}
 use Rattle.ledger_steps.specs.LedgerCallsCalls.{depth_at, operand_of}
 use Rattle.value_laws.specs.Outcomes.{IsCallRow}
+use Rattle.value_laws.proofs.CallNames.{depth_is, holds_at}
 use Rattle.covering_laws.proofs.SaidFacts.{HoldsApart}
 
 -- ---- operands
-
-holds_at : (held : PlaceSet) (d : Option ℕ) → has_temp held d ≡ true → (n : ℕ) × (d ≡ Some n) × (has held (places.Temp n) ≡ true)
-holds_at held None is = absurd (true≢false (sym is))
-holds_at held (Some n) is = (n, refl, is)
-
-depth_is : (a : Action) (k n : ℕ) → k < 4294967296 → operand_at a k ≡ Some n → depth_at a k ≡ Some n
-depth_is a k n below is = rw (lt-ltb k 4294967296 below) is
 
 -- the operand of a fact's place is its object
 pub operand_holds : (p : Program) (h : HeapContents) (m : MethodId) (l : Locals) (a : Action) (o k : ℕ) (held : PlaceSet) → IsSmallAction p a → k < 4294967296
@@ -108,19 +100,6 @@ all_kept p b a held names (x ∷ xs) each = (each 0 x refl, all_kept p b a held 
 pub kept_further : (p : Program) (b : BodyId) (a : Action) (held : PlaceSet) (names more : Names) (xs : List Promise) → set.is_subset names more ≡ true → AreKept p b a held names xs → AreKept p b a held more xs
 kept_further p b a held names more [] less kept = tt
 kept_further p b a held names more (x ∷ xs) less kept = ((λ holds. within_trans x.names names more (kept.0 holds) less), kept_further p b a held names more xs less kept.1)
-
--- a signature that promises nothing promises nothing at an edge
-pub none_promised : (p : Program) (a : Action) (e : Edge) → promises_in (callee p a) ≡ [] → throwing_promises_in (callee p a) ≡ [] → promises_at p a e ≡ []
-none_promised p a edges.Go none thrown = none
-none_promised p a edges.Null none thrown = refl
-none_promised p a edges.NonNull none thrown = refl
-none_promised p a edges.True none thrown = refl
-none_promised p a edges.False none thrown = refl
-none_promised p a (edges.Throws t) none thrown = go (may_be_null_target p a (edges.Throws t))
-  where
-    go : (b : Bool) → (if b then [] else throwing_promises_in (callee p a)) ≡ []
-    go true = refl
-    go false = thrown
 
 promised_names_kept : (p : Program) (b : BodyId) (a : Action) (held : PlaceSet) (names : Names) (xs : List Promise) → AreKept p b a held names xs → set.is_subset (promised_at p b a held xs) names ≡ true
 promised_names_kept p b a held names [] kept = empty_within names

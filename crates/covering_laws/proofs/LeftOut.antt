@@ -1,6 +1,6 @@
 -- A step that creates the obligation of `this` anew leaves the fields of `this` out of the facts that go on: what one of them holds is in a fact that the step bears for it. Where the frame answers for the fields
 -- of `this`, the field owns it.
-use Rattle.std.proofs.Common.{eq-eqb, ◌∷◌, ◌≡◌, inl, inr, ℕ, Bool, true, false, not, ◌&&◌, true≢false, Option, Some, None, List, slice_get, refl, sym, ap, ◌∙◌, subst}
+use Rattle.std.proofs.Common.{eq-eqb, ◌∷◌, ◌≡◌, inl, inr, ℕ, Bool, true, false, not, true≢false, Option, Some, None, List, slice_get, refl, sym, ap, ◌∙◌, subst}
 use Rattle.program_model.specs.declared.kinds.ClassId.{ClassId}
 use Rattle.program_model.specs.declared.kinds.FieldId.{FieldId}
 use Rattle.program_model.specs.declared.kinds.VType.{VType}
@@ -19,8 +19,8 @@ use Rattle.java_control.specs.Calls.{is_reset_of_this}
 use Rattle.java_control.specs.Control.{Step}
 use Rattle.java_control.specs.PlaceNumbers.{IsSmall}
 use Rattle.java_control.specs.Sources.{is_part}
-use Rattle.java_control.specs.declared.place.Place.{Place}
-use Rattle.java_control.specs.declared.place.Place.TheVariants as places
+use Rattle.control_actions.specs.declared.place.Place.{Place}
+use Rattle.control_actions.specs.declared.place.Place.TheVariants as places
 use Rattle.value_laws.specs.Accept.{Accept}
 use Rattle.ledger_state.specs.Contents.{HeapContents}
 use Rattle.ledger_state.specs.Fields.{field_of, field_value}
@@ -45,6 +45,7 @@ use Rattle.value_laws.specs.Ranges.{LocalsInRange}
 use Rattle.value_laws.specs.Renewing.{answers_for_fields, is_declared_beside, makes_alone, reopens}
 use Rattle.ledger_obligations.specs.Bodies.{alias_in, constructs, is_class_of, method_of}
 use Rattle.std.proofs.lemmas.Bool.{and_from, or_left}
+use Rattle.covering_laws.proofs.AliasedResets.{aliased_resets_nothing}
 use Rattle.covering_laws.proofs.Bodies.{running_method}
 use Rattle.covering_laws.proofs.Following.{method_here, step_there}
 use Rattle.covering_laws.proofs.HeavyFields.{answers_by, reopening_answers}
@@ -112,7 +113,7 @@ module _ (p : Program) (ac : Accept p) (forms : HasPlainForms p) (h k : HeapCont
         go false none = and_from (constructs (method_at p fr.method)) (not (is_present (alias_in (method_at p fr.method)))) makes (ap not none)
         go true has' =
             absurd (true≢false (sym resets
-            ∙ forms.aliased st.number i (move_of s) st.control (step_there p fr st i s here)
+            ∙ aliased_resets_nothing p ac st.number i (move_of s) st.control (step_there p fr st i s here)
             (and_from (constructs (method_of p st.number)) (is_present (alias_in (method_of p st.number))) (ap constructs (method_here p fr st) ∙ makes) (ap (λ (m : Option Method). is_present (alias_in m)) (method_here p fr st) ∙ has'))))
 
     -- the field is one of the class of the method

@@ -20,11 +20,11 @@ use Rattle.ownership_rules.specs.Signatures.{is_position}
 use Rattle.ownership_rules.specs.SmallActions.{IsSmallAction}
 use Rattle.java_control.specs.Calls.{called_method, is_reset_of_this, temp_at}
 use Rattle.java_control.specs.Control.{Step}
-use Rattle.java_control.specs.declared.action.Action.{Action}
-use Rattle.java_control.specs.declared.action.Action.TheVariants as actions
-use Rattle.java_control.specs.declared.action.TargetForm.TheVariants as call_forms
-use Rattle.java_control.specs.declared.fact.OriginKind.TheVariants as kinds
-use Rattle.java_control.specs.declared.place.Place.TheVariants as places
+use Rattle.control_actions.specs.declared.action.Action.{Action}
+use Rattle.control_actions.specs.declared.action.Action.TheVariants as actions
+use Rattle.control_actions.specs.declared.action.TargetForm.TheVariants as call_forms
+use Rattle.control_actions.specs.declared.fact.OriginKind.TheVariants as kinds
+use Rattle.control_actions.specs.declared.place.Place.TheVariants as places
 use Rattle.ledger_state.specs.Contents.{HeapContents}
 use Rattle.ledger_state.specs.Heaps.{object_at, root_of, unfinished}
 use Rattle.ledger_state.specs.declared.entry.Owner.{Owner}
@@ -119,7 +119,7 @@ module _ (p : Program) (ac : Accept p) (forms : HasPlainForms p) (h : HeapConten
     says false other is = inr (ap reopens run.1 ∙ and_from (not (is_constructor_kind run.0.kind)) (is_position run.0.sig.reset 0) (ap not other) (sym (ap (λ (b : Bool). b || is_position run.0.sig.reset 0) other) ∙ is))
 
     pub opens_by : (constructs (method_at p fr.method) ≡ true) ⊎ (reopens (method_at p fr.method) ≡ true)
-    opens_by = elim (target_mode p ac forms h fr old frs st i s here call.0 away anew o x c target) [
+    opens_by = elim (target_mode p ac h fr old frs st i s here call.0 away anew o x c target) [
       | inl claimed ↦ elim (claims_by p (method_at p fr.method) c.origin c.fact claimed) [
         | inl own ↦ absurd (true≢false (sym (and_from (is_heavy_class p c.origin.class) (is_own c.fact.mode) (claims_owned p (method_at p fr.method) c.origin c.fact claimed).0 own) ∙ (c.lent lends).0))
         | inr held ↦ inl ((c.lent lends).1 held.0).0

@@ -1,6 +1,6 @@
 -- What a frame creates the obligation of anew, and a fact in mode Held claims: a field of what its constructor makes owns it, or one of `this`, which is lent; or it is `this`, which the frame lends.
-use Rattle.std.proofs.Common.{◌≡◌, ◌⊎◌, inl, inr, ap, refl, sym, subst, ◌∙◌, ℕ, ◌<◌, Bool, true, false, not, ◌&&◌, ◌||◌, true≢false, eq-eqb, Option, Some, None, List, ◌∷◌}
-use Rattle.std.proofs.lemmas.Bool.{and_from, and_parts, not-true, or_left, or_right}
+use Rattle.std.proofs.Common.{◌≡◌, inl, inr, ap, refl, sym, subst, ◌∙◌, ℕ, ◌<◌, Bool, true, false, not, true≢false, eq-eqb, Option, Some, None, List, ◌∷◌}
+use Rattle.std.proofs.lemmas.Bool.{and_from, and_parts, not-true, or_right}
 use Rattle.program_model.specs.declared.kinds.BodyId.{BodyId}
 use Rattle.program_model.specs.declared.kinds.ClassId.{ClassId}
 use Rattle.program_model.specs.declared.kinds.FieldId.{FieldId}
@@ -8,17 +8,14 @@ use Rattle.program_model.specs.declared.program.Method.{Method}
 use Rattle.program_model.specs.declared.program.Program.{Program}
 use Rattle.program_model.specs.Lookups.{field_at, method_at}
 use Rattle.program_model.specs.SuperTests.{is_class}
-use Rattle.ledger_obligations.specs.Bodies.{alias_in, constructs, has_field_place, is_class_of, is_constructor, is_constructor_kind, is_field_in, method_of, reset_in}
+use Rattle.ledger_obligations.specs.Bodies.{alias_in, constructs, is_class_of, reset_in}
 use Rattle.ledger_obligations.specs.MustCallSets.{is_heavy_class}
-use Rattle.java_control.specs.Calls.{is_reset_of_this}
-use Rattle.java_control.specs.Control.{Step}
 use Rattle.java_control.specs.Owned.{field_number, is_owning_field, place_of_field}
 use Rattle.java_control.specs.PlaceNumbers.{IsSmall}
-use Rattle.java_control.specs.declared.fact.Mode.{Mode}
-use Rattle.java_control.specs.declared.fact.Mode.TheVariants as modes
-use Rattle.java_control.specs.declared.place.Place.{Place}
-use Rattle.java_control.specs.declared.place.Place.TheVariants as places
-use Rattle.ownership_rules.specs.Facts.{has, is_held, is_lent, is_this_origin}
+use Rattle.control_actions.specs.declared.fact.Mode.TheVariants as modes
+use Rattle.control_actions.specs.declared.place.Place.{Place}
+use Rattle.control_actions.specs.declared.place.Place.TheVariants as places
+use Rattle.ownership_rules.specs.Facts.{has, is_held}
 use Rattle.ownership_rules.specs.Signatures.{is_position, is_present}
 use Rattle.ledger_state.specs.Contents.{HeapContents}
 use Rattle.ledger_state.specs.Fields.{field_value}
@@ -31,43 +28,33 @@ use Rattle.ledger_state.specs.declared.value.Value.{Value}
 use Rattle.ledger_state.specs.declared.value.Value.TheVariants as values
 use Rattle.value_laws.specs.Accept.{Accept}
 use Rattle.value_laws.specs.Agreement.{Stands}
-use Rattle.value_laws.specs.Choosing.{body_id, frame_steps}
+use Rattle.value_laws.specs.Choosing.{body_id}
 use Rattle.value_laws.specs.Configuration.{Frame}
 use Rattle.value_laws.specs.Chains.{HaveEnds}
 use Rattle.value_laws.specs.FieldContents.{AreUnfinished, FieldsOwn, IsFieldOfClass}
 use Rattle.value_laws.specs.Frames.{KeepsTargets}
 use Rattle.value_laws.specs.Heaps.{HasEarlierLinks}
 use Rattle.value_laws.specs.Holders.{HoldersAreUnlinked}
-use Rattle.value_laws.specs.Paths.{Reach, move_of, relation_of}
+use Rattle.value_laws.specs.Paths.{Reach, relation_of}
 use Rattle.value_laws.specs.PlaceFacts.{Covers, IsCovered, IsInField, OwesOrHolds, claims, fits_in, is_heavy_in}
 use Rattle.value_laws.specs.PlacePlaces.{is_local}
 use Rattle.value_laws.specs.Places.{owning_field_beside}
 use Rattle.value_laws.specs.PlainForms.{HasPlainForms}
 use Rattle.value_laws.specs.Ranges.{LocalsInRange}
 use Rattle.value_laws.specs.Renewing.{IsWhole, is_declared_beside, HasOwningField, IsHeldByLent, IsLentFrom, answers_for_fields, lends_this, makes_alone, reopens}
-use Rattle.value_laws.proofs.FactOrigins.{this_own}
 use Rattle.value_laws.proofs.FieldPlaces.{place_of_beside}
 use Rattle.value_laws.proofs.HeldPlaces.{held_in_this}
-use Rattle.value_laws.proofs.LentThis.{this_is_lent_on_paths}
 use Rattle.value_laws.proofs.Chains.{object_there}
 use Rattle.value_laws.proofs.RootLaws.{root_itself}
 use Rattle.value_laws.proofs.Spared.{declares}
 use Rattle.covering_laws.proofs.Bodies.{running_method}
-use Rattle.covering_laws.proofs.Following.{method_here, same_body, step_there}
-use Rattle.covering_laws.proofs.GivenAway.{at_any}
-use Rattle.covering_laws.proofs.HeavyFields.{HasPlace, answering_not_idle, answers_by, covered_at, heavy_by_place, held_claims, held_mode, value_here}
+use Rattle.covering_laws.proofs.Following.{same_body}
+use Rattle.covering_laws.proofs.HeavyFields.{HasPlace, answering_not_idle, answers_by, heavy_by_place, held_claims, held_mode, value_here}
 use Rattle.covering_laws.proofs.InFields.{held_finished, held_in_field, owning_place, place_in}
 use Rattle.covering_laws.proofs.Owners.{held_at}
 use Rattle.covering_laws.proofs.RenewedOperands.{HoldsLent, IsHeldOrLent, IsMadeHere}
+use Rattle.covering_laws.proofs.ThisLent.{lent_this, this_lent}
 use Rattle.covering_laws.proofs.ThisOperands.{lends_target}
-use Rattle.covering_laws.proofs.WaitingTargets.{this_kind}
-
-lent_mode : (m : Mode) → is_lent m ≡ true → m ≡ modes.Lent
-lent_mode modes.Lent is = refl
-lent_mode modes.Own is = absurd (true≢false (sym is))
-lent_mode modes.None is = absurd (true≢false (sym is))
-lent_mode modes.Held is = absurd (true≢false (sym is))
-lent_mode modes.Alias is = absurd (true≢false (sym is))
 
 module _ (p : Program) (ac : Accept p) (forms : HasPlainForms p) (h : HeapContents) (links : HasEarlierLinks h) (own : FieldsOwn p h) (fr : Frame) (mine : LocalsInRange h fr.locals) (st : Stands p fr) (old : ℕ → Bool) (frs : List Frame)
     (targets : KeepsTargets p fr) (have : HaveEnds h) (unfinished : AreUnfinished p h (fr ∷ frs)) where
@@ -77,24 +64,9 @@ module _ (p : Program) (ac : Accept p) (forms : HasPlainForms p) (h : HeapConten
   reached_here : (away anew : Bool) (o : ℕ) (x : Object) (c : Covers p h away anew old frs fr o x) → Reach p st.number (relation_of p st.number) c.origin fr.control c.fact
   reached_here away anew o x c = subst (λ (b : BodyId). Reach p b (relation_of p b) c.origin fr.control c.fact) (same_body c.body st.number (body_id p fr.method) c.id st.id) c.reached
 
-  -- ---- the fact of `this`
+  -- ---- in a constructor, and in a method that creates the obligation of `this` anew
 
-  -- in a constructor, and in a method that creates the obligation of `this` anew, it is lent
   module _ (answers : answers_for_fields (method_at p fr.method) ≡ true) where
-    says : (is_constructor_kind running.0.kind || is_position running.0.sig.reset 0) ≡ true
-    says = elim (answers_by (method_at p fr.method) answers) [
-      | inl alone ↦ or_left (is_constructor_kind running.0.kind) (is_position running.0.sig.reset 0)
-          (sym (ap constructs running.2) ∙ (and_parts (constructs (method_at p fr.method)) (not (is_present (alias_in (method_at p fr.method)))) alone).0)
-      | inr opens ↦ or_right (is_constructor_kind running.0.kind) (is_position running.0.sig.reset 0)
-          (sym (ap (λ (m : Option Method). is_position (reset_in m) 0) running.2) ∙ (and_parts (not (constructs (method_at p fr.method))) (is_position (reset_in (method_at p fr.method)) 0) opens).1)
-    ]
-
-    this_lent : (away anew : Bool) (o : ℕ) (x : Object) (c : Covers p h away anew old frs fr o x) → has c.fact.places places.This ≡ true → c.fact.mode ≡ modes.Lent
-    this_lent away anew o x c is =
-        let reach = reached_here away anew o x c in
-        lent_mode c.fact.mode (this_is_lent_on_paths p st.number st.body running.0 st.at running.1 says c.origin fr.control c.fact reach
-        (this_kind c.origin.kind (this_own p ac st.number st.body st.at c.origin fr.control c.fact reach is)))
-
     -- a fact in mode Held of a class with an obligation, which the frame does not read as a fact of `this`, has the place of an owning field that the class of the frame's method declares
     has_declared : (away anew : Bool) (o : ℕ) (x : Object) (c : Covers p h away anew old frs fr o x) → c.fact.mode ≡ modes.Held → is_heavy_class p c.origin.class ≡ true → (f : FieldId) × (is_declared_beside p fr.method (field_at p f) ≡ true)
     has_declared away anew o x c held wide =
@@ -114,31 +86,13 @@ module _ (p : Program) (ac : Accept p) (forms : HasPlainForms p) (h : HeapConten
         by : (q : Place) → IsSmall q → is_local q ≡ false → has c.fact.places q ≡ true → (g : FieldId) × (is_declared_beside p fr.method (field_at p g) ≡ true)
         by (places.Var i) small out is = absurd (true≢false out)
         by (places.Temp d) small out is = absurd (true≢false out)
-        by places.This small out is = absurd (let never : modes.Held ≡ modes.Lent = sym held ∙ this_lent away anew o x c is in cc)
+        by places.This small out is = absurd (let never : modes.Held ≡ modes.Lent = sym held ∙ this_lent p ac h fr st old frs answers away anew o x c is in cc)
         by places.Super small out is = absurd (let never : None ≡ Some o = c.places (answering_not_idle p frs fr c.fact answers) places.Super small refl is in cc)
         by (places.Field n) small out is = placed n small (owning_field_beside p fr.method n) refl (c.fields n small wide is)
 
     module _ (gives : ℕ → ClassId → Bool) (renewed : ℕ → Owner → Bool) (covered : IsCovered p h gives renewed old frs fr) where
-      pub this_covers : (r : ℕ) (z : Object) → root_of h fr.locals.this ≡ Some r → object_at h r ≡ Some z → is_heavy_class p z.class ≡ true → OwesOrHolds p h r z
-          → (c : Covers p h (gives r z.class) (renewed r z.owner) old frs fr r z) × (c.fact.mode ≡ modes.Lent)
-      this_covers r z root at heavy owes =
-          let c = covered_at p h (gives r z.class) (renewed r z.owner) old frs fr places.This r z (covered places.This r z tt refl root at heavy owes) in
-          (c.0, this_lent (gives r z.class) (renewed r z.owner) r z c.0 c.1)
-
-      pub no_constructor : reopens (method_at p fr.method) ≡ true → constructs (method_at p fr.method) ≡ false
+      no_constructor : reopens (method_at p fr.method) ≡ true → constructs (method_at p fr.method) ≡ false
       no_constructor opens = not-true (constructs (method_at p fr.method)) (and_parts (not (constructs (method_at p fr.method))) (is_position (reset_in (method_at p fr.method)) 0) opens).0
-
-      -- in a method `this` is lent
-      lent_this : constructs (method_at p fr.method) ≡ false → (r : ℕ) (z : Object) → root_of h fr.locals.this ≡ Some r → object_at h r ≡ Some z → is_heavy_class p z.class ≡ true → OwesOrHolds p h r z → IsWhole p z → IsLentFrom p h frs r z.owner
-      lent_this other r z root at heavy owes whole = go z.finished refl whole
-        where
-          c : (c : Covers p h (gives r z.class) (renewed r z.owner) old frs fr r z) × (c.fact.mode ≡ modes.Lent)
-          c = this_covers r z root at heavy owes
-
-          go : (b : Bool) → z.finished ≡ b → IsWhole p z → IsLentFrom p h frs r z.owner
-          go true done whole' = (c.0.lends c.1 done).1
-          go false open' (inl done) = absurd (true≢false (sym done ∙ open'))
-          go false open' (inr fields) = (c.0.begun c.1 (ap (λ (b : Bool). b && is_this_origin c.0.origin.kind) other) fields open').1
 
       -- ---- what a fact in mode Held claims, where the frame does not lend `this`
 
@@ -191,7 +145,7 @@ module _ (p : Program) (ac : Accept p) (forms : HasPlainForms p) (h : HeapConten
             whole = inr fields;
             unlinked = λ done. y.2;
             heavy = y.3;
-            lends = lent_this (no_constructor opens) w y.0 root_here y.1 y.3 bears (inr fields);
+            lends = lent_this p ac h fr st old frs answers gives renewed covered (no_constructor opens) w y.0 root_here y.1 y.3 bears (inr fields);
           }
 
         held_or_lent : HoldersAreUnlinked (is_heavy_class p) h → IsHeldOrLent p h frs fr o x.owner
@@ -245,7 +199,7 @@ module _ (p : Program) (ac : Accept p) (forms : HasPlainForms p) (h : HeapConten
         go false keeps = held_or_lent answers gives renewed covered o x at heavy (held_finished p h away anew old frs fr o x c claimed held keeps) away anew c held wide keeps unlinked
         go true lends = let root' = lends_target p ac fr st targets h o lends anew' in elim (answers_by (method_at p fr.method) answers) [
           | inl alone ↦ inr (inr (inr (made alone root')))
-          | inr opens ↦ inl (lent_this answers gives renewed covered (no_constructor answers gives renewed covered opens) o x root' at heavy owes whole)
+          | inr opens ↦ inl (lent_this p ac h fr st old frs answers gives renewed covered (no_constructor answers gives renewed covered opens) o x root' at heavy owes whole)
         ]
 
     -- the `this` of a method that creates its obligation anew is lent
@@ -253,4 +207,4 @@ module _ (p : Program) (ac : Accept p) (forms : HasPlainForms p) (h : HeapConten
         → IsWhole p y → IsLentFrom p h frs w y.owner
     opened_this opens w y this at heavy owes single whole =
         let answers = or_right (makes_alone (method_at p fr.method)) (reopens (method_at p fr.method)) opens in
-        lent_this answers gives renewed covered (no_constructor answers gives renewed covered opens) w y (ap (root_of h) this ∙ ap Some (root_itself h w y at single)) at heavy owes whole
+        lent_this p ac h fr st old frs answers gives renewed covered (no_constructor answers gives renewed covered opens) w y (ap (root_of h) this ∙ ap Some (root_itself h w y at single)) at heavy owes whole

@@ -214,7 +214,6 @@ pub use Rattle.value_laws.proofs.Unmet
 pub use Rattle.value_laws.proofs.ValueTypeLaws
 pub use Rattle.value_laws.proofs.WaysUp
 pub use Rattle.value_laws.proofs.ReachedRoots
-pub use Rattle.value_laws.proofs.ResetsUp
 pub use Rattle.value_laws.proofs.Tops
 pub use Rattle.value_laws.proofs.Spared
 pub use Rattle.value_laws.proofs.SparingCalls

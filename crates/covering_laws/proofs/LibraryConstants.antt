@@ -3,10 +3,10 @@ use Rattle.std.proofs.Common.{◌≡◌, ℕ, false, refl, Some, None}
 use Rattle.program_model.specs.declared.kinds.MethodId.{MethodId}
 use Rattle.program_model.specs.declared.program.Program.{Program}
 use Rattle.java_control.specs.Calls.{is_reset_of_this, operand_at}
-use Rattle.java_control.specs.declared.action.Action.{Action}
-use Rattle.java_control.specs.declared.action.Action.TheVariants as actions
-use Rattle.java_control.specs.declared.action.Edge.{Edge}
-use Rattle.java_control.specs.declared.fact.Fact.{Fact}
+use Rattle.control_actions.specs.declared.action.Action.{Action}
+use Rattle.control_actions.specs.declared.action.Action.TheVariants as actions
+use Rattle.control_actions.specs.declared.action.Edge.{Edge}
+use Rattle.control_actions.specs.declared.fact.Fact.{Fact}
 use Rattle.value_laws.specs.Outcomes.{IsNotNull, IsPlainRow}
 use Rattle.value_laws.specs.PlacePlaces.{IsWay, SetsLocals}
 use Rattle.value_laws.proofs.Moved.{IsConstantRead}

@@ -1,6 +1,6 @@
 -- A call of the library, or a read of its constant, begins and ends in one step of the top frame.
 use Rattle.std.specs.Prelude.{MatchBool, not}
-use Rattle.std.proofs.Common.{Bool, List, None, Option, Some, ap, arith, false, if◌then◌else◌, inl, inr, refl, subst, suc, length, sym, true, true≢false, zero, ℕ, ◌+◌, ◌<◌, ◌∙◌, ◌∷◌, ◌≡◌, ◌⊎◌}
+use Rattle.std.proofs.Common.{Bool, List, None, Option, Some, ap, arith, false, if◌then◌else◌, inl, inr, refl, subst, suc, length, sym, true, true≢false, zero, ℕ, ◌+◌, ◌∙◌, ◌∷◌, ◌≡◌, ◌⊎◌}
 use Rattle.std.proofs.lemmas.List.Elements.{All-tail}
 use Rattle.std.specs.FinSet as set
 use Rattle.rlc_base.specs.declared.name_id.NameId.{NameId}
@@ -19,17 +19,17 @@ use Rattle.ledger_obligations.specs.WellFormed.{HasSmallInterests}
 use Rattle.java_control.specs.Calls.{called_method}
 use Rattle.java_control.specs.Control.{Step}
 use Rattle.java_control.specs.PlaceNumbers.{IsSmall}
-use Rattle.java_control.specs.declared.action.Action.{Action}
-use Rattle.java_control.specs.declared.action.Action.TheVariants as actions
-use Rattle.java_control.specs.declared.action.Edge.{Edge}
-use Rattle.java_control.specs.declared.action.Edge.TheVariants as edges
-use Rattle.java_control.specs.declared.action.PlainValue.TheVariants as plain_values
-use Rattle.java_control.specs.declared.action.TargetForm.{TargetForm}
-use Rattle.java_control.specs.declared.fact.Mode.TheVariants as modes
-use Rattle.java_control.specs.declared.fact.Origin.{Origin}
-use Rattle.java_control.specs.declared.fact.OriginKind.TheVariants as kinds
-use Rattle.java_control.specs.declared.place.Place.{Place}
-use Rattle.java_control.specs.declared.place.Place.TheVariants as places
+use Rattle.control_actions.specs.declared.action.Action.{Action}
+use Rattle.control_actions.specs.declared.action.Action.TheVariants as actions
+use Rattle.control_actions.specs.declared.action.Edge.{Edge}
+use Rattle.control_actions.specs.declared.action.Edge.TheVariants as edges
+use Rattle.control_actions.specs.declared.action.PlainValue.TheVariants as plain_values
+use Rattle.control_actions.specs.declared.action.TargetForm.{TargetForm}
+use Rattle.control_actions.specs.declared.fact.Mode.TheVariants as modes
+use Rattle.control_actions.specs.declared.fact.Origin.{Origin}
+use Rattle.control_actions.specs.declared.fact.OriginKind.TheVariants as kinds
+use Rattle.control_actions.specs.declared.place.Place.{Place}
+use Rattle.control_actions.specs.declared.place.Place.TheVariants as places
 use Rattle.ownership_rules.specs.Callees.{callee, callee_in, is_super_target}
 use Rattle.value_laws.specs.CalledRows.{interest_in, called_after, promises_at}
 use Rattle.ownership_rules.specs.Births.{birth_on, fact_at, origin_of, read_birth}
@@ -51,7 +51,6 @@ use Rattle.ledger_state.specs.declared.value.Value.TheVariants as values
 use Rattle.ledger_obligations.specs.declared.note.Note.{Note}
 use Rattle.ledger_obligations.specs.Obligations.{first_set, has_note, is_library_owner, note}
 use Rattle.value_laws.specs.Places.{place_value}
-use Rattle.ledger_steps.specs.LedgerCallsCalls as ledger_calls
 use Rattle.ledger_steps.specs.LedgerCallsCalls.{alias_position, operand_of, params_in, position_object, position_of, reset_position}
 use Rattle.ledger_steps.specs.Conducts.{conduct_value, first_in, made_by_new, owning_in, positions, result_in, result_owner, value_at}
 use Rattle.value_laws.specs.Configuration.{Frame}
@@ -134,7 +133,7 @@ use Rattle.covering_laws.proofs.Waiting.{but_texts, Carries, HoldsThere, KeepsRo
 use Rattle.covering_laws.specs.Linking.{GivesClass, IsGivenAsAlias, LinkedAreAliases}
 use Rattle.value_laws.proofs.AliasConducts.{GivesAlias, gives_object, library_gives}
 use Rattle.value_laws.specs.FactGoing.{GoesAs}
-use Rattle.java_control.specs.declared.fact.Fact.{Fact}
+use Rattle.control_actions.specs.declared.fact.Fact.{Fact}
 use Rattle.value_laws.specs.Flow.{flow}
 use Rattle.value_laws.proofs.Growth.{library_grows}
 use Rattle.value_laws.specs.PlaceRows.{places_after}

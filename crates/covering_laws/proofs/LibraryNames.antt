@@ -9,9 +9,9 @@ use Rattle.program_model.specs.declared.program.Program.{Program}
 use Rattle.program_model.specs.Lookups.{method_at}
 use Rattle.program_model.specs.SuperTests.{is_under}
 use Rattle.ledger_obligations.specs.MustCallSets.{must_of}
-use Rattle.java_control.specs.declared.action.Action.{Action}
-use Rattle.java_control.specs.declared.action.TargetForm.{TargetForm}
-use Rattle.java_control.specs.declared.action.TargetForm.TheVariants as forms
+use Rattle.control_actions.specs.declared.action.Action.{Action}
+use Rattle.control_actions.specs.declared.action.TargetForm.{TargetForm}
+use Rattle.control_actions.specs.declared.action.TargetForm.TheVariants as forms
 use Rattle.value_laws.specs.Accept.{Accept}
 use Rattle.ledger_state.specs.Classes.{class_in, is_under_class, runtime_class}
 use Rattle.ledger_state.specs.Contents.{HeapContents}

@@ -19,9 +19,9 @@ use Rattle.ledger_obligations.specs.Bodies.{has_field_place, promises_in, throwi
 use Rattle.java_control.specs.Calls.{called_method}
 use Rattle.java_control.specs.Control.{Step}
 use Rattle.java_control.specs.Owned.{place_of_field}
-use Rattle.java_control.specs.declared.action.Action.{Action}
-use Rattle.java_control.specs.declared.action.Edge.{Edge}
-use Rattle.java_control.specs.declared.action.Edge.TheVariants as edges
+use Rattle.control_actions.specs.declared.action.Action.{Action}
+use Rattle.control_actions.specs.declared.action.Edge.{Edge}
+use Rattle.control_actions.specs.declared.action.Edge.TheVariants as edges
 use Rattle.ownership_rules.specs.Callees.{callee, callee_in, holds_operand, is_this_target, may_be_null_target}
 use Rattle.ownership_rules.specs.Facts.{has}
 use Rattle.ownership_rules.specs.Signatures.{is_at, promised_names, when}

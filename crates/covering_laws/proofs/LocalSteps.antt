@@ -1,6 +1,6 @@
 -- What the laws on places ask of a step, of a frame that stands at a reached control of an accepted program of the plain forms.
 use Rattle.std.specs.List.{All}
-use Rattle.std.proofs.Common.{◌≡◌, ℕ, Some, List, [], ◌∷◌, slice_get, subst, ◌∙◌}
+use Rattle.std.proofs.Common.{◌≡◌, ℕ, Some, List, [], ◌∷◌, slice_get, subst}
 use Rattle.std.proofs.lemmas.List.Elements.{All-head, All-tail}
 use Rattle.program_model.specs.declared.program.Program.{Program}
 use Rattle.java_control.specs.Control.{Step}

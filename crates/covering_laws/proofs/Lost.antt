@@ -6,8 +6,8 @@ use Rattle.std.proofs.Common.{Bool, List, None, Option, Some, [], ap, arith, eq-
 use Rattle.rlc_base.proofs.SetLaws.{within_self}
 use Rattle.program_model.specs.declared.kinds.ClassId.{ClassId}
 use Rattle.program_model.specs.declared.program.Program.{Program}
-use Rattle.java_control.specs.declared.place.Place.{Place}
-use Rattle.java_control.specs.declared.place.Place.TheVariants as places
+use Rattle.control_actions.specs.declared.place.Place.{Place}
+use Rattle.control_actions.specs.declared.place.Place.TheVariants as places
 use Rattle.ledger_obligations.specs.MustCallSets.{is_heavy_class}
 use Rattle.ledger_state.specs.Contents.{HeapContents}
 use Rattle.ledger_state.specs.Fields.{field_value}
@@ -32,12 +32,12 @@ use Rattle.value_laws.proofs.EndLaws.{changed_back, frame_back, kept_goes_on}
 use Rattle.value_laws.proofs.HeapLaws.{root_of_changed, changed_object_at-object}
 use Rattle.value_laws.specs.HeapAnew.{is_field_owner}
 use Rattle.value_laws.specs.Holders.{IsComparable, IsWithin, UnfinishedAreUnowned, by_field, itself}
-use Rattle.value_laws.specs.PlaceFacts.{AreCovered, AreWaiting, EndsBelow, IsCovered, IsHolder, IsSpared, OwesOrHolds, OwnersBelow, gives_none, is_frame_below, is_frame_from, is_given, may_owe, renews_none, IsAnswered, IsOwnedBelow, IsOld, MayStore, is_given_up}
+use Rattle.value_laws.specs.PlaceFacts.{AreCovered, AreWaiting, EndsBelow, IsCovered, IsHolder, IsSpared, OwesOrHolds, OwnersBelow, gives_none, is_field_place, is_frame_below, is_frame_from, is_given, may_owe, renews_none, IsAnswered, IsOwnedBelow, IsOld, MayStore, is_given_up}
 use Rattle.value_laws.specs.FieldContents.{FieldsOwn, MakersOwn}
 use Rattle.covering_laws.proofs.FieldOwners.{fields_own_as}
 use Rattle.covering_laws.proofs.Gifts.{gifts_same}
 use Rattle.covering_laws.proofs.OwnerSteps.{frame_is, given_up_free}
-use Rattle.covering_laws.proofs.Owners.{KeepsGifts, KeepsOwn, KeepsOwners, StaysApart, is_field_place, old_kept, ThisWas}
+use Rattle.covering_laws.proofs.Owners.{KeepsGifts, KeepsOwn, KeepsOwners, StaysApart, old_kept, ThisWas}
 use Rattle.covering_laws.proofs.Waiting.{AllGoOn, AllHeldBefore, IsCarried, KeepsReady, KeepsUnfinished, bore_before, given_alike, reread_alike, same_place, stays_covered}
 use Rattle.covering_laws.proofs.LinkedExceptions.{LinkedWere}
 use Rattle.covering_laws.proofs.GivenAway.{at_any}

@@ -1,5 +1,5 @@
 -- A constructor without an aliased argument, of a class that no other one extends, runs on the object that it makes, which is not finished.
-use Rattle.std.proofs.Common.{◌≡◌, inl, inr, ℕ, ◌&&◌, Bool, true, false, not, Option, IsSomeAnd, Some, None, List, [], ◌∷◌, refl, sym, ap, ◌∙◌, subst, true≢false, eq-eqb}
+use Rattle.std.proofs.Common.{◌≡◌, ℕ, true, false, not, Option, IsSomeAnd, Some, None, List, [], ◌∷◌, refl, sym, ap, ◌∙◌, subst, true≢false, eq-eqb}
 use Rattle.std.proofs.lemmas.Bool.{and_parts}
 use Rattle.program_model.specs.declared.kinds.ClassId.{ClassId}
 use Rattle.program_model.specs.declared.kinds.MethodId.{MethodId}
@@ -13,16 +13,16 @@ use Rattle.program_model.specs.SuperTests.{is_class}
 use Rattle.ledger_obligations.specs.Bodies.{alias_in, constructs, is_extended, is_extended_in, is_super}
 use Rattle.ownership_rules.specs.Signatures.{is_present}
 use Rattle.java_control.specs.Calls.{called_method}
-use Rattle.java_control.specs.declared.action.Action.{Action}
-use Rattle.java_control.specs.declared.action.Action.TheVariants as actions
-use Rattle.java_control.specs.declared.action.TargetForm.{TargetForm}
+use Rattle.control_actions.specs.declared.action.Action.{Action}
+use Rattle.control_actions.specs.declared.action.Action.TheVariants as actions
+use Rattle.control_actions.specs.declared.action.TargetForm.{TargetForm}
 use Rattle.ledger_state.specs.Contents.{HeapContents}
 use Rattle.ledger_state.specs.Heaps.{object_at, root_of}
 use Rattle.ledger_state.specs.declared.object.Link.{Link}
 use Rattle.ledger_state.specs.declared.object.Object.{Object}
 use Rattle.ledger_state.specs.declared.value.Value.TheVariants as values
 use Rattle.value_laws.specs.Accept.{Accept}
-use Rattle.value_laws.specs.Agreement.{AllStand, IsMade, IsMadeBy, IsStacked, RunsItself, Stands, WaitsFor}
+use Rattle.value_laws.specs.Agreement.{AllStand, IsMade, IsMadeByNew, IsStacked, RunsItself, Stands, WaitsFor}
 use Rattle.value_laws.specs.Configuration.{Frame}
 use Rattle.value_laws.specs.Constructors.{CallsSuperClass, IsOfSuperClass}
 use Rattle.value_laws.specs.FieldContents.{is_new}
@@ -30,7 +30,7 @@ use Rattle.value_laws.specs.Heaps.{HasEarlierLinks}
 use Rattle.value_laws.specs.Naming.{IsOfItsKind}
 use Rattle.value_laws.specs.Paths.{move_of}
 use Rattle.value_laws.specs.Places.{class_of_method}
-use Rattle.value_laws.specs.Renewing.{HasOwningField, IsMadeBy as MakesIt, is_declared_beside, makes_alone}
+use Rattle.value_laws.specs.Renewing.{HasOwningField, IsMadeBy, is_declared_beside, makes_alone}
 use Rattle.value_laws.proofs.Chains.{object_there}
 use Rattle.value_laws.proofs.ConstructorReached.{has_its_place}
 use Rattle.value_laws.proofs.HeapLaws.{roots_of_links-itself}
@@ -144,13 +144,13 @@ module _ (p : Program) (ac : Accept p) (h : HeapContents) (links : HasEarlierLin
       by actions.Skip is = none_called actions.Skip is refl
       by (actions.New m d n) is =
           let same : fr.method ≡ m = itself m (ap called_method is) (subst (λ (a : Action). RunsItself a waits.named fr.method) is waits.itself) in
-          by_new m d n is same (subst (λ (a : Action). IsMadeBy p h a fr.locals.this) is waits.makes)
+          by_new m d n is same (subst (λ (a : Action). IsMadeByNew p h a fr.locals.this) is waits.makes)
       by (actions.Super m d n) is = by_super m d n is (itself m (ap called_method is) (subst (λ (a : Action). RunsItself a waits.named fr.method) is waits.itself))
       by (actions.Call m d n form) is = by_call m d n form is
       by a is = none_called a is refl
 
   -- so a constructor runs on what it makes
-  makes_here : makes_alone (method_at p fr.method) ≡ true → (o : ℕ) (x : Object) → root_of h fr.locals.this ≡ Some o → object_at h o ≡ Some x → HasOwningField p x.class → MakesIt p fr o × (x.finished ≡ false)
+  makes_here : makes_alone (method_at p fr.method) ≡ true → (o : ℕ) (x : Object) → root_of h fr.locals.this ≡ Some o → object_at h o ≡ Some x → HasOwningField p x.class → IsMadeBy p fr o × (x.finished ≡ false)
   makes_here alone o x root at (field, declared, has, owning, class) =
       let made = made_here frs stand stacked making o x root at in (
         record {

@@ -6,7 +6,7 @@ use Rattle.ledger_obligations.specs.MustCallSets.{is_heavy_class}
 use Rattle.java_control.specs.Owned.{is_owning}
 use Rattle.ledger_state.specs.Contents.{HeapContents}
 use Rattle.ledger_state.specs.Fields.{field_value}
-use Rattle.ledger_state.specs.Heaps.{next_number, object_at, root, root_of}
+use Rattle.ledger_state.specs.Heaps.{object_at, root, root_of}
 use Rattle.ledger_state.specs.declared.entry.Owner.{Owner}
 use Rattle.ledger_state.specs.declared.entry.Owner.TheVariants as owners
 use Rattle.ledger_state.specs.declared.object.Object.{Object}
@@ -16,13 +16,13 @@ use Rattle.value_laws.specs.Configuration.{Frame}
 use Rattle.value_laws.specs.FieldContents.{MakerOwns, MakersOwn, RunOnOthers}
 use Rattle.value_laws.specs.Heaps.{HasEarlierLinks}
 use Rattle.value_laws.specs.Holders.{UnfinishedAreUnowned}
-use Rattle.value_laws.specs.PlaceFacts.{OwesOrHolds, is_frame_from, is_heavy_in}
+use Rattle.value_laws.specs.PlaceFacts.{OwesOrHolds, is_heavy_in}
 use Rattle.value_laws.specs.Ranges.{FieldsInRange, IsNumber}
 use Rattle.value_laws.specs.Renewing.{IsMadeBy}
 use Rattle.covering_laws.proofs.FieldOwners.{AreAsBefore, LinksObject, held_in_range}
 use Rattle.covering_laws.proofs.Owners.{OwnerGoes, OwnersGo, held_at, held_no_frame, left, passed, stays}
 use Rattle.covering_laws.proofs.TextStores.{no_root}
-use Rattle.covering_laws.proofs.Waiting.{Continues, KeepsFieldsButTexts, KeepsRoots, numbered, open_owes}
+use Rattle.covering_laws.proofs.Waiting.{KeepsFieldsButTexts, KeepsRoots, numbered, open_owes}
 
 -- what the frame's constructor has in a field it goes on having
 abbrev pub KeepsMade : Program → HeapContents → HeapContents → Frame → Type 0

@@ -2,7 +2,6 @@
 -- anew what they have of these, and the top frame says nothing of what was called on them.
 use Rattle.covering_laws.specs.Sight.{AllActInSight}
 use Rattle.std.specs.Prelude.{◌&&◌, not}
-use Rattle.std.specs.FinSet as set
 use Rattle.std.proofs.Common.{◌≡◌, ◌⊎◌, inl, inr, ℕ, ◌+◌, ◌<◌, Bool, true, false, Some, None, List, ◌∷◌, length, slice_get, nat_eq, eq-eqb, eqb-true, refl, sym, ap, ◌∙◌, subst, true≢false, arith, Option, [], not, ◌&&◌, if◌then◌else◌}
 use Rattle.std.proofs.lemmas.List.Elements.{All-head, All-tail}
 use Rattle.program_model.specs.declared.kinds.FieldId.{FieldId}
@@ -13,8 +12,8 @@ use Rattle.ledger_obligations.specs.Bodies.{reset_in}
 use Rattle.ledger_obligations.specs.MustCallSets.{is_heavy_class}
 use Rattle.ownership_rules.specs.Signatures.{type_of_field}
 use Rattle.java_control.specs.Control.{Step}
-use Rattle.java_control.specs.declared.place.Place.TheVariants as places
-use Rattle.java_control.specs.declared.action.Action.TheVariants as actions
+use Rattle.control_actions.specs.declared.place.Place.TheVariants as places
+use Rattle.control_actions.specs.declared.action.Action.TheVariants as actions
 use Rattle.value_laws.specs.Accept.{Accept}
 use Rattle.ledger_state.specs.Contents.{HeapContents}
 use Rattle.ledger_state.specs.Fields.{field_value}
@@ -24,7 +23,6 @@ use Rattle.ledger_state.specs.declared.object.Object.{Object}
 use Rattle.ledger_state.specs.declared.value.Value.{Value}
 use Rattle.ledger_state.specs.declared.value.Value.TheVariants as values
 use Rattle.ledger_obligations.specs.Obligations as obligations
-use Rattle.ledger_steps.specs.LedgerCallsCalls as ledger_calls
 use Rattle.value_laws.specs.Configuration.{Frame}
 use Rattle.value_laws.specs.Choosing.{frame_steps}
 use Rattle.value_laws.specs.Chains.{HaveEnds}
@@ -48,8 +46,6 @@ use Rattle.covering_laws.proofs.StoringThis.{IsReopened}
 use Rattle.covering_laws.specs.Texts.{TextsAreLight}
 use Rattle.value_laws.specs.Types.{KeepsTypes, is_text}
 use Rattle.value_laws.specs.Renewing.{IsLentFrom, lends_this}
-use Rattle.program_model.specs.declared.kinds.VType.TheVariants as kinds
-use Rattle.value_laws.specs.Operands as operand_types
 use Rattle.covering_laws.proofs.BeingMade.{StayOfClass}
 use Rattle.ledger_state.specs.declared.entry.Owner.{Owner}
 use Rattle.ledger_obligations.specs.Obligations.{may_move, stored_owning, moved_in, finished_in, roots_where, holder_roots, is_unmet}
@@ -74,7 +70,7 @@ use Rattle.value_laws.proofs.WaysUp.{one_top, within_goes_on}
 use Rattle.value_laws.proofs.SparingCalls.{lent_ends_below}
 use Rattle.value_laws.specs.HeapAnew.{is_field_owner}
 use Rattle.java_control.specs.PlaceNumbers.{IsSmall}
-use Rattle.java_control.specs.declared.place.Place.{Place}
+use Rattle.control_actions.specs.declared.place.Place.{Place}
 
 -- what holds an object with an obligation has one
 up_heavy : (p : Program) (h : HeapContents) → HoldersAreUnlinked (is_heavy_class p) h → (a b : ℕ) → IsWithin h a b → (x y : Object) → object_at h a ≡ Some x → object_at h b ≡ Some y → is_heavy_class p x.class ≡ true → is_heavy_class p y.class ≡ true

@@ -13,7 +13,7 @@ use Rattle.ledger_state.specs.declared.object.Object.{Object}
 use Rattle.ledger_state.specs.declared.value.Value.{Value}
 use Rattle.value_laws.specs.Chains.{HaveEnds}
 use Rattle.value_laws.specs.PlaceFacts.{IsHeavyObject, is_given_up}
-use Rattle.value_laws.specs.Stores.{IsDisplaced, IsMovedIn, IsStored}
+use Rattle.value_laws.specs.Stores.{IsMovedIn, IsStored}
 use Rattle.value_laws.proofs.RootLaws.{one_object}
 use Rattle.value_laws.proofs.StoredObjects.{moved_back}
 use Rattle.value_laws.proofs.StoreResets.{moves_on}

@@ -13,7 +13,7 @@ use Rattle.program_model.specs.declared.program.ParamSig.{ParamSig}
 use Rattle.program_model.specs.declared.program.Program.{Program}
 use Rattle.program_model.specs.Lookups.{method_at}
 use Rattle.program_model.specs.Overrides.{is_type}
-use Rattle.java_control.specs.declared.action.Action.{Action}
+use Rattle.control_actions.specs.declared.action.Action.{Action}
 use Rattle.ledger_obligations.specs.Bodies.{alias_in, constructs, reset_in}
 use Rattle.ownership_rules.specs.Signatures.{is_present}
 use Rattle.ledger_obligations.specs.MustCallSets.{Names, is_empty, is_heavy_class, must_of, must_of_type, no_names}

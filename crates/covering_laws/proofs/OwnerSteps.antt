@@ -12,9 +12,8 @@ use Rattle.ledger_state.specs.declared.entry.Owner.TheVariants as owners
 use Rattle.ledger_state.specs.declared.object.Object.{Object}
 use Rattle.ledger_obligations.specs.Obligations.{given_up, is_frame, is_held_by, is_library_owner, is_unmet, may_move}
 use Rattle.value_laws.specs.Configuration.{Frame}
-use Rattle.value_laws.specs.FieldContents.{RunOnOthers}
-use Rattle.value_laws.specs.PlaceFacts.{is_frame_below, is_frame_from, may_owe}
-use Rattle.covering_laws.proofs.Owners.{IsNewTo, OwnerGoes, from_frame, left, passed}
+use Rattle.value_laws.specs.PlaceFacts.{is_frame_from, may_owe}
+use Rattle.covering_laws.proofs.Owners.{IsNewTo, OwnerGoes, left}
 
 -- a field owns the object
 abbrev pub is_field_owner : Owner → Bool
@@ -97,10 +96,6 @@ IsFree o = (is_frame_from 0 o ≡ false) × ((w : ℕ) → is_held_by o w ≡ fa
 pub given_up_free : (x y : Object) → y ≡ given_up x → IsFree y.owner
 given_up_free x y is = (ap (λ (z : Object). is_frame_from 0 z.owner) is ∙ given_up_unowned x, λ w. ap (λ (z : Object). is_held_by z.owner w) is ∙ given_up_unheld x w)
 
--- a frame gives up what it owned
-pub ended_goes : (h : HeapContents) (into : Option ℕ) (below : List Frame) (j : ℕ) (a b : Owner) → is_frame a j ≡ true → IsFree b → OwnerGoes h into below j a b
-ended_goes h into below j a b is free = passed (own_frame j a (frame_is a j is)) (λ w held. absurd (true≢false (sym held ∙ free.1 w))) (λ n same. absurd (true≢false (sym (ap (is_frame_from 0) same ∙ from_frame 0 n (omega arith)) ∙ free.0)))
-
 -- and a field of an object that is not finished, on which none of the frames below runs
 pub gave_up : (h : HeapContents) (into : Option ℕ) (below : List Frame) (j : ℕ) (a b : Owner) → is_field_owner a ≡ true → IsFree b → ((w : ℕ) → is_held_by a w ≡ true → IsNewTo h below w) → OwnerGoes h into below j a b
 gave_up h into below j a b field free others = left field free.0 free.1 others
@@ -161,12 +156,3 @@ under i owners.Library below other = refl
 under i owners.Released below other = refl
 under i owners.Lost below other = refl
 under i owners.Unowned below other = refl
-
--- what a frame below the position owns no frame from it on does
-pub below_not_from : (i : ℕ) (o : Owner) → is_frame_below i o ≡ true → is_frame_from i o ≡ false
-below_not_from i (owners.Frame n) is = ap not is
-below_not_from i (owners.Field w f) is = refl
-below_not_from i owners.Library is = refl
-below_not_from i owners.Released is = refl
-below_not_from i owners.Lost is = refl
-below_not_from i owners.Unowned is = refl

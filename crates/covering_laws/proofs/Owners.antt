@@ -12,9 +12,8 @@ use Rattle.ledger_obligations.specs.Bodies.{constructs, reset_in}
 use Rattle.ledger_obligations.specs.MustCallSets.{is_heavy_class}
 use Rattle.ownership_rules.specs.Signatures.{is_present}
 use Rattle.java_control.specs.PlaceNumbers.{IsSmall}
-use Rattle.java_control.specs.declared.fact.Fact.{Fact}
-use Rattle.java_control.specs.declared.place.Place.{Place}
-use Rattle.java_control.specs.declared.place.Place.TheVariants as places
+use Rattle.control_actions.specs.declared.fact.Fact.{Fact}
+use Rattle.control_actions.specs.declared.place.Place.{Place}
 use Rattle.ledger_state.specs.Contents.{HeapContents}
 use Rattle.ledger_state.specs.Heaps.{object_at, root_of}
 use Rattle.ledger_state.specs.declared.entry.Owner.{Owner}
@@ -29,8 +28,8 @@ use Rattle.value_laws.specs.FieldContents.{RunOnOthers}
 use Rattle.value_laws.specs.Chains.{HaveEnds}
 use Rattle.value_laws.specs.HeapAnew.{is_field_owner}
 use Rattle.value_laws.specs.Holders.{HoldersAreUnlinked}
-use Rattle.value_laws.specs.PlaceFacts.{EndsBelow, IsAnswered, IsApart, IsHeavyObject, IsHolder, IsOld, IsOwnedBelow, IsSpared, MayStore, RunsOn, is_frame_below, is_frame_from, is_given, is_given_up, is_idle, leaves_all, takes_nothing}
-use Rattle.value_laws.specs.Renewing.{HasOwningField, IsLentFrom, IsMadeBy, IsOwnedByThis, IsWhole, IsWholeObject, answers_for_fields, is_renewed, lends_this, was_renewed}
+use Rattle.value_laws.specs.PlaceFacts.{EndsBelow, IsAnswered, IsApart, IsHeavyObject, IsHolder, IsOld, IsOwnedBelow, IsSpared, MayStore, RunsOn, is_field_place, is_frame_below, is_frame_from, is_given, is_given_up, is_idle, leaves_all, takes_nothing}
+use Rattle.value_laws.specs.Renewing.{HasOwningField, IsLentFrom, IsMadeBy, IsOwnedByThis, IsWhole, IsWholeObject, answers_for_fields, is_renewed, lends_this}
 use Rattle.value_laws.proofs.RootLaws.{one_object}
 use Rattle.value_laws.proofs.WaysOverSteps.{KeepsWays, answered_before, below_before, comparable_below, ends_below_still}
 
@@ -94,13 +93,6 @@ pub record WaysGo (p : Program) (into : Option ℕ) (below : List Frame) (j : �
   pub unready : (w : ℕ) → into ≡ Some w → (z : Object) × (object_at h w ≡ Some z) × (z.finished ≡ false)
 
 -- ---- what frames own
-
-abbrev pub is_field_place : Place → Bool
-is_field_place (places.Field n) = true
-is_field_place (places.Var i) = false
-is_field_place places.This = false
-is_field_place (places.Temp d) = false
-is_field_place places.Super = false
 
 -- What is not owned by the frame above these or one above it does not come to be, nor does what no frame owns, nor does a field of `this`, in a frame
 -- that leaves all as it is, come to own anything; what is lent to the frame keeps its owner, and is lent; what ends below this frame does so still, what is
@@ -280,11 +272,6 @@ KeepsGifts p h k fr = (o : ℕ) → ((c : ClassId) → is_given p k fr o c ≡ i
 abbrev pub AllKeepGifts : Program → HeapContents → HeapContents → List Frame → Type 0
 AllKeepGifts p h k [] = Unit {0}
 AllKeepGifts p h k (fr ∷ frs) = KeepsGifts p h k fr × AllKeepGifts p h k frs
-
--- a frame that was not begun so has nothing lent
-pub lent_renewed : (p : Program) (h : HeapContents) (frs : List Frame) (o : ℕ) (owner : Owner) → IsLentFrom p h frs o owner → was_renewed p h frs o ≡ true
-lent_renewed p h [] o owner is = absurd is
-lent_renewed p h (fr ∷ frs) o owner is = is.0
 
 -- ---- the frames below the position from which owners change
 
@@ -566,7 +553,7 @@ module _ (p : Program) (into : Option ℕ) (leaving : List Frame) (j : ℕ) (h k
 
 -- what is held apart after a step was before it
 pub apart_before : (p : Program) (h k : HeapContents) (old : ℕ → Bool) (frs : List Frame) (fr after : Frame) (o : ℕ) (x y : Object) (f g : Fact) → StaysApart p h k frs fr → IsOld p h frs fr old → object_at h o ≡ Some x → object_at k o ≡ Some y
-    → x.finished ≡ true → is_heavy_class p x.class ≡ true → is_idle p frs fr f ≡ false → IsApart p k old frs after o y.owner g → IsApart p h old frs fr o x.owner f
+    → x.finished ≡ true → is_heavy_class p x.class ≡ true → is_idle p frs fr f ≡ false → IsApart p k old frs after o g → IsApart p h old frs fr o f
 apart_before p h k old frs fr after o x y f g others aged before at done heavy said (was, spared, answered, idle) =
     (was, others.spared o x before (done, heavy) (aged.ends o x before (done, heavy) was) answered spared, others.answered o x before heavy answered, said)
 

@@ -1,5 +1,5 @@
 -- Over a store into a field of a finished object, which is lent to the frame that stores: the places of the frames below of which something is said hold what they held.
-use Rattle.std.proofs.Common.{◌≡◌, ◌⊎◌, inl, inr, ℕ, ◌+◌, ◌<◌, Bool, true, false, not, ◌&&◌, Option, Some, None, List, [], ◌∷◌, length, nat_eq, refl, sym, ap, ◌∙◌, subst, true≢false, eqb-true, eq-eqb}
+use Rattle.std.proofs.Common.{◌≡◌, ◌⊎◌, inl, inr, ℕ, ◌<◌, Bool, true, false, Option, Some, None, List, [], ◌∷◌, nat_eq, refl, sym, ap, ◌∙◌, true≢false, eqb-true, eq-eqb}
 use Rattle.program_model.specs.declared.kinds.ClassId.{ClassId}
 use Rattle.program_model.specs.declared.kinds.FieldId.{FieldId}
 use Rattle.program_model.specs.declared.kinds.VType.TheVariants as types
@@ -8,15 +8,13 @@ use Rattle.program_model.specs.declared.program.Method.{Method}
 use Rattle.program_model.specs.declared.program.Program.{Program}
 use Rattle.program_model.specs.Lookups.{field_at, method_at}
 use Rattle.program_model.specs.Overrides.{is_library}
-use Rattle.java_control.specs.PlaceNumbers.{IsSmall}
-use Rattle.java_control.specs.declared.place.Place.{Place}
-use Rattle.java_control.specs.declared.place.Place.TheVariants as places
+use Rattle.control_actions.specs.declared.place.Place.{Place}
+use Rattle.control_actions.specs.declared.place.Place.TheVariants as places
 use Rattle.ledger_obligations.specs.Bodies.{constructs}
 use Rattle.ledger_obligations.specs.MustCallSets.{is_heavy_class}
 use Rattle.ledger_state.specs.Contents.{HeapContents}
 use Rattle.ledger_state.specs.Fields.{field_value}
 use Rattle.ledger_state.specs.Heaps.{object_at, root_of}
-use Rattle.ledger_state.specs.declared.entry.Owner.{Owner}
 use Rattle.ledger_state.specs.declared.object.Object.{Object}
 use Rattle.ledger_state.specs.declared.value.Value.{Value}
 use Rattle.ledger_state.specs.declared.value.Value.TheVariants as values
@@ -26,7 +24,7 @@ use Rattle.value_laws.specs.Chains.{HaveEnds}
 use Rattle.value_laws.specs.Configuration.{Frame}
 use Rattle.value_laws.specs.FieldContents.{AreNew, AreUnfinished}
 use Rattle.value_laws.specs.Holders.{HoldersAreUnlinked}
-use Rattle.value_laws.specs.PlaceFacts.{AreWaiting, IsCovered, OwesOrHolds, is_given, is_lent_place, is_settled}
+use Rattle.value_laws.specs.PlaceFacts.{AreWaiting, IsCovered, OwesOrHolds, is_given, is_settled}
 use Rattle.value_laws.specs.PlainForms.{HasPlainForms}
 use Rattle.value_laws.specs.Places.{field_place_value, owning_field_beside, place_value}
 use Rattle.value_laws.specs.Renewing.{IsWholeObject, is_of_heavy_class, is_reread, lends_this, reopens}

@@ -4,8 +4,8 @@ use Rattle.std.specs.FinSet as set
 use Rattle.rlc_base.proofs.SetLaws.{empty_within, within_trans}
 use Rattle.program_model.specs.declared.program.Program.{Program}
 use Rattle.ledger_obligations.specs.MustCallSets.{Names, must_of}
-use Rattle.java_control.specs.declared.fact.Fact.{Fact}
-use Rattle.java_control.specs.declared.fact.Origin.{Origin}
+use Rattle.control_actions.specs.declared.fact.Fact.{Fact}
+use Rattle.control_actions.specs.declared.fact.Origin.{Origin}
 use Rattle.ledger_state.specs.declared.object.Object.{Object}
 use Rattle.value_laws.specs.PlaceFacts.{IsTrueOf}
 use Rattle.value_laws.specs.Renewing.{fact_as}

@@ -1,13 +1,13 @@
 -- The object whose obligation a call creates anew: the frame that calls owns it, or it is lent to the frame, or a field of what the frame's constructor makes owns it, or a field of
 -- `this`, which is lent to the frame.
-use Rattle.java_control.specs.declared.fact.Origin.{Origin}
-use Rattle.java_control.specs.declared.fact.Fact.{Fact}
+use Rattle.control_actions.specs.declared.fact.Origin.{Origin}
+use Rattle.control_actions.specs.declared.fact.Fact.{Fact}
 use Rattle.program_model.specs.declared.program.Method.{Method}
 use Rattle.ownership_rules.specs.Signatures.{is_position, is_present}
+use Rattle.covering_laws.proofs.AliasedResets.{aliased_resets_nothing}
 use Rattle.covering_laws.proofs.HeavyFields.{alone_answers, claims_by, claims_owned, held_claims, own_claims, reopening_answers}
-use Rattle.covering_laws.proofs.InFields.{held_by_this}
 use Rattle.covering_laws.proofs.Owners.{lent_not_from}
-use Rattle.std.proofs.Common.{Bool, List, Option, Some, ap, false, inl, inr, length, not, eqb-true, nat_eq, None, refl, slice_get, subst, sym, true, true≢false, ℕ, ◌&&◌, ◌+◌, ◌||◌, ◌∙◌, ◌≡◌, ◌⊎◌}
+use Rattle.std.proofs.Common.{Bool, List, Option, Some, ap, false, inl, inr, length, not, eqb-true, nat_eq, refl, slice_get, subst, sym, true, true≢false, ℕ, ◌&&◌, ◌+◌, ◌||◌, ◌∙◌, ◌≡◌, ◌⊎◌}
 use Rattle.std.proofs.lemmas.Bool.{and_from, and_parts, or_left, or_parts}
 use Rattle.program_model.specs.declared.kinds.BodyId.{BodyId}
 use Rattle.program_model.specs.declared.program.Program.{Program}
@@ -17,8 +17,8 @@ use Rattle.ledger_obligations.specs.MustCallSets.{is_heavy_class}
 use Rattle.java_control.specs.Calls.{operand_at}
 use Rattle.java_control.specs.Control.{Step}
 use Rattle.java_control.specs.PlaceNumbers.{IsSmall}
-use Rattle.java_control.specs.declared.fact.Mode.TheVariants as modes
-use Rattle.java_control.specs.declared.place.Place.TheVariants as places
+use Rattle.control_actions.specs.declared.fact.Mode.TheVariants as modes
+use Rattle.control_actions.specs.declared.place.Place.TheVariants as places
 use Rattle.ownership_rules.specs.Callees.{callee, is_this_target}
 use Rattle.ownership_rules.specs.Facts.{has, has_temp, is_held, is_lent, is_this_origin}
 use Rattle.ownership_rules.specs.MovesAtCalls.{moved_at_call}
@@ -41,9 +41,8 @@ use Rattle.value_laws.specs.Frames.{KeepsTargets}
 use Rattle.value_laws.specs.Anew.{IsInHands, MayBeAnew, holds_target, is_target}
 use Rattle.value_laws.specs.Outcomes.{IsCallRow}
 use Rattle.value_laws.specs.Paths.{Reach, move_of, relation_of}
-use Rattle.value_laws.specs.PlainForms.{HasPlainForms}
 use Rattle.value_laws.specs.PlaceFacts.{Covers, IsCovered, IsKeyed, IsOwned, claims, gives_away, gives_none, OwesOrHolds, owned, renews_none, unowned}
-use Rattle.value_laws.specs.Renewing.{HasInHand, HasOwningField, IsHeldBy, IsHeldByLent, IsLentFrom, IsMadeBy, IsOwnedByThis, IsWhole, answers_for_fields, is_renewed, lends_this, makes_alone, renews, reopens}
+use Rattle.value_laws.specs.Renewing.{HasInHand, HasOwningField, IsHeldBy, IsHeldByLent, IsLentFrom, IsMadeBy, IsWhole, answers_for_fields, is_renewed, makes_alone, renews, reopens}
 use Rattle.value_laws.proofs.ResetTargets.{answered_targets}
 use Rattle.value_laws.proofs.Resetting.{answered_target}
 use Rattle.value_laws.proofs.Readings.{operand_renews, renewed_operand}
@@ -83,18 +82,6 @@ claims_or_lends p fr st o f (inr (inr (held, heavy, inl (makes, single)))) = inl
 
     alone : makes_alone (method_at p fr.method) ≡ true
     alone = and_from (constructs (method_at p fr.method)) (not (is_present (alias_in (method_at p fr.method)))) new (ap not no_alias)
-
--- the frame answers for the fields of `this`, and one of them owns what has this owner
-abbrev pub IsHeldHere : Program → Frame → Owner → Type 0
-IsHeldHere p fr owner = (answers_for_fields (method_at p fr.method) ≡ true) × IsOwnedByThis p fr owner
-
--- what a fact claims the frame owns, or, where it does not lend `this`, a field of this
-pub claimed_owner : (p : Program) (h : HeapContents) (away anew : Bool) (old : ℕ → Bool) (frs : List Frame) (fr : Frame) (o : ℕ) (x : Object) (c : Covers p h away anew old frs fr o x) → IsOwned p h away anew old frs fr o x c → away ≡ false → x.finished ≡ true
-    → lends_this p fr ≡ false → (x.owner ≡ owners.Frame (length frs + 1)) ⊎ IsHeldHere p fr x.owner
-claimed_owner p h away anew old frs fr o x c key kept done keeps = elim (claims_by p (method_at p fr.method) c.origin c.fact key.owning) [
-  | inl own ↦ inl (key.owner kept own)
-  | inr held ↦ inr (held.1, held_by_this p h away anew old frs fr o x c done held.0 held.1 keeps (claims_owned p (method_at p fr.method) c.origin c.fact key.owning).0)
-]
 
 -- the frame makes it, and nobody owns it
 abbrev pub IsMadeHere : Program → Frame → ℕ → Owner → Type 0
@@ -168,7 +155,7 @@ module _ (p : Program) (ac : Accept p) (h : HeapContents) (have : HaveEnds h) (f
       go false open' (inl done) = absurd (true≢false (sym done ∙ open'))
       go false open' (inr fields) = by open' fields (constructs (method_at p fr.method)) (is_this_origin c.origin.kind) refl refl
 
-module _ (p : Program) (ac : Accept p) (forms : HasPlainForms p) (h : HeapContents) (fr : Frame) (st : Stands p fr) (old : ℕ → Bool) (frs : List Frame) (i : ℕ) (s : Step) (here : slice_get (frame_steps p fr) i ≡ Some s) (row : IsCallRow s.action)
+module _ (p : Program) (ac : Accept p) (h : HeapContents) (fr : Frame) (st : Stands p fr) (old : ℕ → Bool) (frs : List Frame) (i : ℕ) (s : Step) (here : slice_get (frame_steps p fr) i ≡ Some s) (row : IsCallRow s.action)
     (covered : IsCovered p h gives_none renews_none old frs fr) (holds : HoldsLent p h old frs fr st) (have : HaveEnds h) (targets : KeepsTargets p fr) (making : MakesThis p h fr) (o : ℕ) (x : Object) (before : object_at h o ≡ Some x) (heavy : is_heavy_class p x.class ≡ true) (owes : OwesOrHolds p h o x) where
   module _ (k : ℕ) (position : reset_in (callee p s.action) ≡ Some k) (root : root_of h (operand_of fr.locals s.action k) ≡ Some o) where
     pub temp : (n : ℕ) × (operand_at s.action k ≡ Some n) × (operand_of fr.locals s.action k ≡ temp_value fr.locals n)
@@ -194,7 +181,7 @@ module _ (p : Program) (ac : Accept p) (forms : HasPlainForms p) (h : HeapConten
       its_mode =
           let run = running_method p ac fr st in
           let of : method_at p st.body.method ≡ Some run.0 = ap (method_at p) st.method ∙ run.1 in
-          claims_or_lends p fr st c.origin c.fact (answered_targets p ac st.number st.body run.0 st.at of (λ aliased u n t comes there. forms.aliased st.number n t comes there aliased)
+          claims_or_lends p fr st c.origin c.fact (answered_targets p ac st.number st.body run.0 st.at of (λ aliased u n t comes there. aliased_resets_nothing p ac st.number n t comes there aliased)
           c.origin fr.control c.fact reached s.action answer.0 answer.2)
 
       -- what moves is not the target

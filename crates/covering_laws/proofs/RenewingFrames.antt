@@ -1,5 +1,5 @@
 -- What a frame that waits for a call has in hand of what the call creates the obligation of anew.
-use Rattle.std.proofs.Common.{◌≡◌, inl, inr, ap, arith, refl, sym, ◌∙◌, ℕ, ◌+◌, Bool, true, false, not, ◌&&◌, ◌||◌, true≢false, eqb-true, nat_eq, Option, Some, None, List, [], ◌∷◌, length, slice_get, subst}
+use Rattle.std.proofs.Common.{◌≡◌, inl, inr, ap, arith, refl, sym, ◌∙◌, ℕ, ◌+◌, Bool, true, false, not, ◌&&◌, true≢false, eqb-true, nat_eq, Option, Some, None, List, [], ◌∷◌, length, slice_get, subst}
 use Rattle.std.specs.List.{All}
 use Rattle.std.proofs.lemmas.Bool.{and_from, and_parts, not-true}
 use Rattle.std.proofs.lemmas.List.Elements.{All-head, All-tail}
@@ -11,13 +11,13 @@ use Rattle.ledger_obligations.specs.Bodies.{constructs, reset_in}
 use Rattle.ledger_obligations.specs.MustCallSets.{is_heavy_class}
 use Rattle.java_control.specs.Calls.{is_reset_of_this, resets_receiver}
 use Rattle.java_control.specs.Control.{Step}
-use Rattle.java_control.specs.declared.action.Action.{Action}
-use Rattle.java_control.specs.declared.action.Action.TheVariants as actions
+use Rattle.control_actions.specs.declared.action.Action.{Action}
+use Rattle.control_actions.specs.declared.action.Action.TheVariants as actions
 use Rattle.java_control.specs.PlaceNumbers.{IsSmall}
-use Rattle.java_control.specs.declared.fact.Mode.TheVariants as modes
-use Rattle.java_control.specs.declared.fact.OriginKind.{OriginKind}
-use Rattle.java_control.specs.declared.fact.OriginKind.TheVariants as kinds
-use Rattle.java_control.specs.declared.place.Place.TheVariants as places
+use Rattle.control_actions.specs.declared.fact.Mode.TheVariants as modes
+use Rattle.control_actions.specs.declared.fact.OriginKind.{OriginKind}
+use Rattle.control_actions.specs.declared.fact.OriginKind.TheVariants as kinds
+use Rattle.control_actions.specs.declared.place.Place.TheVariants as places
 use Rattle.ownership_rules.specs.Callees.{callee, is_this_target}
 use Rattle.ownership_rules.specs.Facts.{PlaceSet, has, is_held, is_own, is_this_origin}
 use Rattle.ownership_rules.specs.MovesAtCalls.{moved_at_call}
@@ -68,11 +68,6 @@ use Rattle.covering_laws.proofs.OwnerSteps.{own_frame}
 use Rattle.covering_laws.proofs.RenewedOperands.{HoldsLent}
 use Rattle.covering_laws.proofs.WaitingTargets.{answer, owned_or_lent, owns_target, renewed_at_step, target_mode, target_reached, temp}
 
-no_both : (a b : Bool) → (a && not b) ≡ true → b ≡ false
-no_both true false is = refl
-no_both true true is = absurd (true≢false (sym is))
-no_both false b is = absurd (true≢false (sym is))
-
 none_present : (r : Option ℕ) → is_present r ≡ false → r ≡ None
 none_present None is = refl
 none_present (Some k) is = absurd (true≢false is)
@@ -104,10 +99,10 @@ module _ (p : Program) (ac : Accept p) (forms : HasPlainForms p) (h : HeapConten
   -- what is lent to the method
   may_lend : (away anew : Bool) (o : ℕ) (x : Object) (c : Covers p h away anew old frs fr o x) → is_target p s.action c.fact.places ≡ true → c.fact.mode ≡ modes.Lent → may_be_lent running.0 c.origin.kind ≡ true
   may_lend away anew o x c target lent =
-      lent_facts p st.number st.body running.0 st.at running.1 c.origin fr.control c.fact (target_reached p ac forms h fr old frs st i s here row away anew o x c target) lent
+      lent_facts p st.number st.body running.0 st.at running.1 c.origin fr.control c.fact (target_reached p ac h fr old frs st i s here row away anew o x c target) lent
 
   hands : (u : ℕ) (x : Object) → object_at h u ≡ Some x → IsWholeObject p x → OwesOrHolds p h u x → is_renewed p h fr u ≡ true → HasInHand p h (IsLentFrom p h frs) (length frs + 1) fr u x.owner
-  hands u x at wide owes renewed = elim (owned_or_lent p ac forms h fr old frs st i s here row covered holds have targets making u x at wide.1 owes wide.0 renewed) [
+  hands u x at wide owes renewed = elim (owned_or_lent p ac h fr old frs st i s here row covered holds have targets making u x at wide.1 owes wide.0 renewed) [
     | inl it ↦ inl (it.key.owner it.kept it.own)
     | inr other ↦ inr other
   ]
@@ -122,14 +117,14 @@ module _ (p : Program) (ac : Accept p) (forms : HasPlainForms p) (h : HeapConten
 
   module _ (u : ℕ) (x : Object) (at : object_at h u ≡ Some x) (wide : IsWholeObject p x) (owes : OwesOrHolds p h u x) (renewed : is_renewed p h fr u ≡ true) where
     abbrev operand : (t : ℕ) × IsSmall (places.Temp t) × (root_of h (place_value p h fr.method fr.locals (places.Temp t)) ≡ Some u) × ((held : PlaceSet) → has held (places.Temp t) ≡ true → is_target p s.action held ≡ true)
-    operand = temp p ac forms h fr old frs st i s here row covered holds have targets making u x at wide.1 owes wide.0 renewed
+    operand = temp p ac h fr old frs st i s here row covered holds have targets making u x at wide.1 owes wide.0 renewed
 
     keyed : IsKeyed p h (is_given p h fr u x.class) (is_reread p h fr u x.owner) old frs fr (places.Temp operand.0) u x
     keyed = covered (places.Temp operand.0) u x operand.1 refl operand.2 at wide.1 owes
 
     owns : (c : Covers p h (is_given p h fr u x.class) (is_reread p h fr u x.owner) old frs fr u x) → has c.fact.places (places.Temp operand.0) ≡ true → IsOwned p h (is_given p h fr u x.class) (is_reread p h fr u x.owner) old frs fr u x c
         → is_own c.fact.mode ≡ true → x.owner ≡ owners.Frame (length frs + 1)
-    owns c in' key own = let it = owns_target p ac forms h fr old frs st i s here row covered holds have targets making u x at wide.1 owes wide.0 renewed c in' key own in it.key.owner it.kept it.own
+    owns c in' key own = let it = owns_target p ac h fr old frs st i s here row covered holds have targets making u x at wide.1 owes wide.0 renewed c in' key own in it.key.owner it.kept it.own
 
     -- a method that leaves all as it is owns what it creates the obligation of anew
     own_all : leaves_all p (method_at p fr.method) ≡ true → x.owner ≡ owners.Frame (length frs + 1)
@@ -157,7 +152,7 @@ module _ (p : Program) (ac : Accept p) (forms : HasPlainForms p) (h : HeapConten
           | inl own ↦ owns c in' key own
           | inr held ↦ absurd (true≢false (sym held.1 ∙ answers_not))
         ]
-        by (unowned k) = elim (target_mode p ac forms h fr old frs st i s here row (is_given p h fr u x.class) (is_reread p h fr u x.owner) u x k.covers (operand.3 k.covers.fact.places k.here)) [
+        by (unowned k) = elim (target_mode p ac h fr old frs st i s here row (is_given p h fr u x.class) (is_reread p h fr u x.owner) u x k.covers (operand.3 k.covers.fact.places k.here)) [
           | inl claimed ↦ absurd (true≢false (sym claimed ∙ k.unowned))
           | inr lent ↦ absurd (true≢false (sym (may_lend (is_given p h fr u x.class) (is_reread p h fr u x.owner) u x k.covers (operand.3 k.covers.fact.places k.here) lent) ∙ lends_none k.covers.origin.kind))
         ]
@@ -192,7 +187,7 @@ module _ (p : Program) (ac : Accept p) (forms : HasPlainForms p) (h : HeapConten
             (may.1 ∙ ap Some (eqb-true may.0 0 (and_parts (nat_eq may.0 0) (is_this_target s.action) shown).0)))
           where
             may : (k : ℕ) × (reset_in (callee p s.action) ≡ Some k) × MayBeAnew p st.number c.origin s.action k c.fact × (moved_at_call p c.origin s.action s.edge c.fact ≡ moves.Moves → ⊥)
-            may = answer p ac forms h fr old frs st i s here row (is_given p h fr w y.class) (is_reread p h fr w y.owner) w y c (place.3 c.fact.places in')
+            may = answer p ac h fr old frs st i s here row (is_given p h fr w y.class) (is_reread p h fr w y.owner) w y c (place.3 c.fact.places in')
 
             shown : (nat_eq may.0 0 && is_this_target s.action) ≡ true
             shown = go (nat_eq may.0 0 && is_this_target s.action) refl
@@ -243,7 +238,7 @@ module _ (p : Program) (ac : Accept p) (forms : HasPlainForms p) (h : HeapConten
                 | inl own ↦ absurd (not_mine (owns w y there wide owes renewed c in' key own))
                 | inr held ↦ where_lent (lends_this p fr) refl (not_held c key held)
               ]
-              by (unowned k) = elim (target_mode p ac forms h fr old frs st i s here row (is_given p h fr w y.class) (is_reread p h fr w y.owner) w y k.covers (place.3 k.covers.fact.places k.here)) [
+              by (unowned k) = elim (target_mode p ac h fr old frs st i s here row (is_given p h fr w y.class) (is_reread p h fr w y.owner) w y k.covers (place.3 k.covers.fact.places k.here)) [
                 | inl claimed ↦ absurd (true≢false (sym claimed ∙ k.unowned))
                 | inr mode ↦ lends_by k.covers k.here
                     (is_this k.covers.origin.kind (may_lend (is_given p h fr w y.class) (is_reread p h fr w y.owner) w y k.covers (place.3 k.covers.fact.places k.here) mode))
@@ -282,7 +277,7 @@ module _ (p : Program) (ac : Accept p) (forms : HasPlainForms p) (h : HeapConten
                 | inl own ↦ absurd (let never : ◌≡◌ {A = Owner} owners.Unowned (owners.Frame (length frs + 1)) = sym (have.unfinished w y there open'.0) ∙ owns w y there wide owes renewed c in' key own in cc)
                 | inr held ↦ where_lent (lends_this p fr) refl (not_held c key held)
               ]
-              by (unowned k) = elim (target_mode p ac forms h fr old frs st i s here row (is_given p h fr w y.class) (is_reread p h fr w y.owner) w y k.covers (place.3 k.covers.fact.places k.here)) [
+              by (unowned k) = elim (target_mode p ac h fr old frs st i s here row (is_given p h fr w y.class) (is_reread p h fr w y.owner) w y k.covers (place.3 k.covers.fact.places k.here)) [
                 | inl claimed ↦ absurd (true≢false (sym claimed ∙ k.unowned))
                 | inr mode ↦ of_lent k.covers k.here mode
               ]

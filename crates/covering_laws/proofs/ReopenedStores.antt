@@ -1,8 +1,7 @@
 -- Over a store into a field of a finished object, which is lent to the frame that stores: what frames below own, have lent and answer for stays so, and the places of theirs of which something is said hold what they
 -- held. A frame that runs on the same object lends it, or says nothing of its fields.
-use Rattle.std.proofs.Common.{◌≡◌, ◌⊎◌, inl, inr, ℕ, ◌+◌, ◌<◌, ◌≤◌, Bool, true, false, not, ◌&&◌, ◌||◌, Option, Some, None, List, [], ◌∷◌, length, refl, sym, ap, ◌∙◌, subst, true≢false, arith, nat_eq, eqb-true, eq-eqb}
+use Rattle.std.proofs.Common.{◌≡◌, ◌⊎◌, inl, inr, ℕ, ◌+◌, ◌<◌, ◌≤◌, Bool, true, false, not, Some, None, List, [], ◌∷◌, length, refl, sym, ap, ◌∙◌, subst, true≢false, arith, eqb-true}
 use Rattle.std.proofs.lemmas.Bool.{and_parts}
-use Rattle.std.proofs.lemmas.Bool.Decides.{nat_tests}
 use Rattle.program_model.specs.declared.kinds.ClassId.{ClassId}
 use Rattle.program_model.specs.declared.kinds.FieldId.{FieldId}
 use Rattle.program_model.specs.declared.program.Program.{Program}
@@ -22,15 +21,15 @@ use Rattle.value_laws.specs.Configuration.{Frame}
 use Rattle.value_laws.specs.FieldContents.{AreNew, AreUnfinished}
 use Rattle.value_laws.specs.HeapAnew.{is_field_owner}
 use Rattle.value_laws.specs.Holders.{HasTop, HoldersAreUnlinked}
-use Rattle.value_laws.specs.PlaceFacts.{EndsBelow, IsAnswered, IsHolder, IsInFieldBelow, IsOwnedBelow, IsSpared, MayStore, OwesOrHolds, is_frame_below, is_frame_from, is_given, is_given_up, is_settled, leaves_all}
-use Rattle.value_laws.specs.Renewing.{IsLentFrom, IsWholeObject, answers_for_fields, lends_this, makes_alone, reopens}
+use Rattle.value_laws.specs.PlaceFacts.{IsAnswered, IsHolder, IsInFieldBelow, IsOwnedBelow, MayStore, OwesOrHolds, is_frame_below, is_frame_from, is_given, is_given_up, leaves_all}
+use Rattle.value_laws.specs.Renewing.{IsWholeObject, answers_for_fields, lends_this}
 use Rattle.value_laws.proofs.RootLaws.{one_object}
-use Rattle.value_laws.proofs.SettledFrames.{AllRenewInHand, IsOnTheWay, RenewsInHand, is_lending, is_unsettled, making_lends, way_begins, way_goes_down}
-use Rattle.value_laws.proofs.StoreWays.{AllRenewAlike, IsCut, StoredOwner, StoresInto, ends_below_after, heavy_above, joins, leaves, lent_after, spared_before, stays, way_or_cut}
+use Rattle.value_laws.proofs.SettledFrames.{AllRenewInHand, IsOnTheWay, RenewsInHand, is_lending, is_unsettled, making_lends, way_goes_down}
+use Rattle.value_laws.proofs.StoreWays.{AllRenewAlike, StoredOwner, StoresInto, ends_below_after, heavy_above, joins, leaves, lent_after, spared_before, stays, way_or_cut}
 use Rattle.value_laws.proofs.Tops.{has_top}
 use Rattle.value_laws.proofs.WaysUp.{one_top}
 use Rattle.covering_laws.proofs.HeavyFields.{answers_by}
-use Rattle.covering_laws.proofs.Owners.{AllKeepGifts, AllKeepOwners, HoldersWere, KeepsHeld, KeepsOwn, KeepsOwners, StaysApart, from_frame, held_at}
+use Rattle.covering_laws.proofs.Owners.{AllKeepOwners, HoldersWere, KeepsHeld, KeepsOwn, KeepsOwners, StaysApart, from_frame}
 use Rattle.covering_laws.proofs.SaidFacts.{leaves_settles}
 
 -- no frame owns what was given up, nor does a field

@@ -13,10 +13,10 @@ use Rattle.program_model.specs.declared.program.Program.{Program}
 use Rattle.program_model.specs.Lookups.{method_at}
 use Rattle.ledger_obligations.specs.MustCallSets.{Names, fits, fits_type, is_heavy_class, must_of, no_names}
 use Rattle.java_control.specs.Control.{Step}
-use Rattle.java_control.specs.declared.action.Action.{Action}
-use Rattle.java_control.specs.declared.fact.Fact.{Fact}
-use Rattle.java_control.specs.declared.fact.Origin.{Origin}
-use Rattle.java_control.specs.declared.place.Place.{Place}
+use Rattle.control_actions.specs.declared.action.Action.{Action}
+use Rattle.control_actions.specs.declared.fact.Fact.{Fact}
+use Rattle.control_actions.specs.declared.fact.Origin.{Origin}
+use Rattle.control_actions.specs.declared.place.Place.{Place}
 use Rattle.ownership_rules.specs.Bodies.{reset_in}
 use Rattle.ownership_rules.specs.Callees.{callee}
 use Rattle.ownership_rules.specs.Facts.{has, is_held, is_own, need}
@@ -176,13 +176,13 @@ module _ (p : Program) (h k : HeapContents) (same : (v : Value) → root_of k v 
   -- ---- one object
 
   module _ (away anew later : Bool) (old : ℕ → Bool) (frs : List Frame) (fr : Frame) (o : ℕ) (x y : Object) (class : y.class ≡ x.class) (finished : y.finished ≡ x.finished) (owner : y.owner ≡ x.owner) where
-    was_apart : (f : Fact) → IsApart p k old frs fr o y.owner f → IsApart p h old frs fr o x.owner f
+    was_apart : (f : Fact) → IsApart p k old frs fr o f → IsApart p h old frs fr o f
     was_apart f apart = (apart.0, spared_before frs o apart.1, answered_alike k h (alike_turned h k alike) o apart.2, apart.3)
 
     -- a fact stands for it as before, where what it claims is true and what it knows was called
     pub covers_so : (c : Covers p h away anew old frs fr o x) → (claims p (method_at p fr.method) c.origin c.fact ≡ true → (away && is_own c.fact.mode) ≡ false → (is_held c.fact.mode && lends_this p fr) ≡ false → IsTrueOf p y c.origin (fact_as later c.fact))
-        → (x.finished ≡ true → tells_calls p fr.method c.origin c.fact ≡ true → IsApart p h old frs fr o x.owner c.fact → later ≡ false)
-        → (x.finished ≡ true → tells_calls p fr.method c.origin c.fact ≡ true → IsApart p h old frs fr o x.owner c.fact → later ≡ false
+        → (x.finished ≡ true → tells_calls p fr.method c.origin c.fact ≡ true → IsApart p h old frs fr o c.fact → later ≡ false)
+        → (x.finished ≡ true → tells_calls p fr.method c.origin c.fact ≡ true → IsApart p h old frs fr o c.fact → later ≡ false
         → set.is_subset c.fact.called (set.union (asked_of p (method_at p fr.method) c.origin.kind) y.called) ≡ true) → Covers p k away later old frs fr o y
     covers_so c truth quiet known = record {
       body = c.body;
@@ -244,7 +244,7 @@ module _ (p : Program) (h k : HeapContents) (same : (v : Value) → root_of k v 
   module _ (have : HaveEnds h) (away anew later : Bool) (old : ℕ → Bool) (frs : List Frame) (fr : Frame) (is : IsOld p h frs fr old) (o : ℕ) (x y : Object) (before : object_at h o ≡ Some x) (heavy : is_heavy_class p x.class ≡ true)
       (class : y.class ≡ x.class) (finished : y.finished ≡ x.finished) (owner : y.owner ≡ x.owner) (reached : IsReachedBy p h frs o) where
     -- no fact knows what was called on it
-    no_news : (f : Fact) → x.finished ≡ true → IsApart p h old frs fr o x.owner f → ⊥
+    no_news : (f : Fact) → x.finished ≡ true → IsApart p h old frs fr o f → ⊥
     no_news f done apart = not_spared p h have frs o reached apart.1 (is.ends o x before (done, heavy) apart.0)
 
     covers_anew : (c : Covers p h away anew old frs fr o x) → (claims p (method_at p fr.method) c.origin c.fact ≡ true → (away && is_own c.fact.mode) ≡ false → (is_held c.fact.mode && lends_this p fr) ≡ false → IsTrueOf p y c.origin (fact_as later c.fact))

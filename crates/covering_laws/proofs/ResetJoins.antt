@@ -1,6 +1,5 @@
 -- A call of the library, or a read of a constant: all that the places of the frames hold is in facts that are true of it, also where the call creates obligations anew.
 use Rattle.std.proofs.Common.{Bool, List, None, Option, Some, ap, false, inl, inr, length, option_map, refl, subst, sym, true, true≢false, ℕ, ◌+◌, ◌∙◌, ◌∷◌, ◌≡◌, ◌⊎◌}
-use Rattle.std.specs.Prelude.{if◌then◌else◌}
 use Rattle.std.proofs.lemmas.List.Elements.{All-tail}
 use Rattle.program_model.specs.declared.kinds.MethodId.{MethodId}
 use Rattle.program_model.specs.declared.program.Method.{Method}
@@ -12,9 +11,9 @@ use Rattle.ledger_obligations.specs.Obligations as obligations
 use Rattle.ledger_obligations.specs.WellFormed.{HasSmallInterests}
 use Rattle.java_control.specs.Calls.{called_method}
 use Rattle.java_control.specs.Control.{Step}
-use Rattle.java_control.specs.declared.action.Action.{Action}
-use Rattle.java_control.specs.declared.action.Action.TheVariants as actions
-use Rattle.java_control.specs.declared.action.PlainValue.TheVariants as plain_values
+use Rattle.control_actions.specs.declared.action.Action.{Action}
+use Rattle.control_actions.specs.declared.action.Action.TheVariants as actions
+use Rattle.control_actions.specs.declared.action.PlainValue.TheVariants as plain_values
 use Rattle.ownership_rules.specs.Callees.{callee, callee_in}
 use Rattle.stub_conduct.specs.declared.choice.Conduct.{Conduct}
 use Rattle.ledger_state.specs.Contents.{HeapContents}

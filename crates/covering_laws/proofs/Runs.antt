@@ -10,9 +10,9 @@ use Rattle.program_model.specs.Lookups.{method_at}
 use Rattle.ledger_obligations.specs.WellFormed.{HasSmallInterests}
 use Rattle.java_control.specs.Calls.{called_method, is_reset_of_this}
 use Rattle.java_control.specs.Control.{Step, next_of}
-use Rattle.java_control.specs.declared.action.Action.{Action}
-use Rattle.java_control.specs.declared.action.Action.TheVariants as actions
-use Rattle.java_control.specs.declared.action.Completion.{Completion}
+use Rattle.control_actions.specs.declared.action.Action.{Action}
+use Rattle.control_actions.specs.declared.action.Action.TheVariants as actions
+use Rattle.control_actions.specs.declared.action.Completion.{Completion}
 use Rattle.value_laws.specs.Accept.{Accept}
 use Rattle.stub_conduct.specs.declared.choice.Conduct.{Conduct}
 use Rattle.ledger_state.specs.Contents.{HeapContents}
@@ -37,7 +37,7 @@ use Rattle.value_laws.specs.LedgerRunsOutcomes.{went, ended, stray}
 use Rattle.value_laws.specs.LedgerRunsSteps.{began, end, library_went, main_ended, moved, moved_by, returned, returned_by, step, top_move, within}
 use Rattle.value_laws.specs.Heaps.{HasEarlierLinks}
 use Rattle.value_laws.proofs.CallWays.{one_action}
-use Rattle.value_laws.specs.Agreement.{Agree, Agrees, HasMadeClasses, IsMadeAfter, IsMadeBy, Stands, WaitsFor, RunsItself, RunsOnSame}
+use Rattle.value_laws.specs.Agreement.{Agree, Agrees, HasMadeClasses, IsMadeAfter, IsMadeByNew, Stands, WaitsFor, RunsItself, RunsOnSame}
 use Rattle.value_laws.specs.PlainForms.{HasPlainForms, MayRun}
 use Rattle.value_laws.specs.Nexts.{IsBack, IsBackStep, IsInnerStep, IsLibraryMove, IsNext, IsNullCall, IsOwningStore, IsPlainStep, IsStartMove}
 use Rattle.value_laws.proofs.Cases.{next_is}
@@ -356,8 +356,8 @@ module _ (p : Program) (ac : Accept p) (forms : HasPlainForms p) (runs : HasPlai
     same_action = one_action p below.number caller.control waits.index back.index waits.step t (step_here p caller below waits.index waits.step waits.here) (step_here p caller below back.index t back.here)
         (call_may waits.step.action (row_of waits.step.action waits.named waits.calls))
 
-    makes : IsMadeBy p c.heap t.action fr.locals.this
-    makes = subst (λ (a : Action). IsMadeBy p c.heap a fr.locals.this) (sym same_action) waits.makes
+    makes : IsMadeByNew p c.heap t.action fr.locals.this
+    makes = subst (λ (a : Action). IsMadeByNew p c.heap a fr.locals.this) (sym same_action) waits.makes
 
     itself : RunsItself t.action named fr.method
     itself = subst (λ (a : Action). RunsItself a named fr.method) (sym same_action) (subst (λ (z : MethodId). RunsItself waits.step.action z fr.method) (sym same) waits.itself)

@@ -1,9 +1,9 @@
 -- The place of an owning field of `this` as a method begins that runs on an object: it is in the fact that is born of the field at the entry. Where the method creates the obligation of `this` anew, this claims
 -- what the field owns.
 use Rattle.java_control.specs.Control.{start_of}
-use Rattle.std.specs.Prelude.{◌-◌, ◌<◌, ◌||◌, ◌&&◌, not, if◌then◌else◌}
+use Rattle.std.specs.Prelude.{◌-◌, ◌<◌, ◌||◌, not, if◌then◌else◌}
 use Rattle.std.specs.FinSet as set
-use Rattle.std.proofs.Common.{◌≡◌, ◌⊎◌, inl, inr, ℕ, ◌+◌, ◌≤◌, Bool, true, false, not, Option, Some, None, List, ◌∷◌, ◌++◌, slice_get, refl, sym, ap, ◌∙◌, subst, true≢false, eq-eqb}
+use Rattle.std.proofs.Common.{◌≡◌, ◌⊎◌, inl, inr, ℕ, Bool, true, false, not, Option, Some, None, List, slice_get, refl, sym, ap, ◌∙◌, subst, true≢false, eq-eqb}
 use Rattle.std.proofs.lemmas.Bool.{and_from, and_parts}
 use Rattle.std.proofs.lemmas.Option.{slice_get-get_or}
 use Rattle.rlc_base.proofs.SetLaws.{within_self}
@@ -22,11 +22,11 @@ use Rattle.ledger_obligations.specs.Bodies.{alias_in, constructs, fields_in, fie
 use Rattle.ledger_obligations.specs.MustCallSets.{is_empty, is_heavy_class, must_of, must_of_optional, must_of_type, no_names}
 use Rattle.ownership_rules.specs.Signatures.{is_present, type_of_field}
 use Rattle.java_control.specs.Owned.{field_number}
-use Rattle.java_control.specs.declared.fact.Fact.{Fact}
-use Rattle.java_control.specs.declared.fact.Mode.TheVariants as modes
-use Rattle.java_control.specs.declared.fact.Origin.{Origin}
-use Rattle.java_control.specs.declared.place.Place.{Place}
-use Rattle.java_control.specs.declared.place.Place.TheVariants as places
+use Rattle.control_actions.specs.declared.fact.Fact.{Fact}
+use Rattle.control_actions.specs.declared.fact.Mode.TheVariants as modes
+use Rattle.control_actions.specs.declared.fact.Origin.{Origin}
+use Rattle.control_actions.specs.declared.place.Place.{Place}
+use Rattle.control_actions.specs.declared.place.Place.TheVariants as places
 use Rattle.ownership_rules.specs.Facts.{has, is_held, is_own, without}
 use Rattle.ownership_rules.specs.Births.{births_at_entry, fact_at, field_birth, owning_field_birth}
 use Rattle.value_laws.specs.Accept.{Accept}

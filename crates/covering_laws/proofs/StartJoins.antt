@@ -29,16 +29,16 @@ use Rattle.ownership_rules.specs.Signatures.{type_of_field}
 use Rattle.java_control.specs.Calls.{called_method, is_reset_of_this}
 use Rattle.java_control.specs.Control.{Step}
 use Rattle.java_control.specs.Owned.{is_owning_field, field_number}
-use Rattle.java_control.specs.declared.action.Action.{Action}
-use Rattle.java_control.specs.declared.action.Action.TheVariants as actions
+use Rattle.control_actions.specs.declared.action.Action.{Action}
+use Rattle.control_actions.specs.declared.action.Action.TheVariants as actions
 use Rattle.java_control.specs.PlaceNumbers.{IsSmall}
-use Rattle.java_control.specs.declared.fact.Fact.{Fact}
-use Rattle.java_control.specs.declared.fact.Mode.{Mode}
-use Rattle.java_control.specs.declared.fact.Mode.TheVariants as modes
-use Rattle.java_control.specs.declared.fact.Origin.{Origin}
-use Rattle.java_control.specs.declared.fact.OriginKind.TheVariants as kinds
-use Rattle.java_control.specs.declared.place.Place.{Place}
-use Rattle.java_control.specs.declared.place.Place.TheVariants as places
+use Rattle.control_actions.specs.declared.fact.Fact.{Fact}
+use Rattle.control_actions.specs.declared.fact.Mode.{Mode}
+use Rattle.control_actions.specs.declared.fact.Mode.TheVariants as modes
+use Rattle.control_actions.specs.declared.fact.Origin.{Origin}
+use Rattle.control_actions.specs.declared.fact.OriginKind.TheVariants as kinds
+use Rattle.control_actions.specs.declared.place.Place.{Place}
+use Rattle.control_actions.specs.declared.place.Place.TheVariants as places
 use Rattle.ownership_rules.specs.Callees.{callee, callee_in}
 use Rattle.ownership_rules.specs.Facts.{has, has_temp, is_held, is_own}
 use Rattle.ownership_rules.specs.Births.{births_at_entry, fact_at, has_this, origin_of, parameter_mode, this_mode}
@@ -294,7 +294,7 @@ module _ (p : Program) (ac : Accept p) (forms' : HasPlainForms p) (plain : HasPl
       does = operand_renews p h fr.locals s.action o k target root
 
       by : IsCarried h o y → IsLentFrom p K stack o y.owner
-      by (x, before, class, goes) = (renewed, hand (renewed_answered p ac forms' h fr st old frs next.index s next.here row covered holds have targets makes o x before heavy' (bore o x y before goes owes) does whole'))
+      by (x, before, class, goes) = (renewed, hand (renewed_answered p ac h fr st old frs next.index s next.here row covered holds have targets makes o x before heavy' (bore o x y before goes owes) does whole'))
         where
           heavy' : is_heavy_class p x.class ≡ true
           heavy' = ap (is_heavy_class p) (sym class) ∙ heavy
@@ -306,7 +306,7 @@ module _ (p : Program) (ac : Accept p) (forms' : HasPlainForms p) (plain : HasPl
           same = elim (start_owner p l s.action (method_at p named) j h links o x y before at) [
             | inl same' ↦ same'
             | inr given ↦ absurd (true≢false (sym (moved_given p h l s.action (method_at p named) o x same_callee given.1)
-                ∙ renewed_not_given p ac forms' h fr st old frs next.index s next.here row covered holds have targets makes o x before heavy' (bore o x y before goes owes) does whole'))
+                ∙ renewed_not_given p ac h fr st old frs next.index s next.here row covered holds have targets makes o x before heavy' (bore o x y before goes owes) does whole'))
           ]
 
           -- what the caller has in hand it has so

@@ -8,10 +8,10 @@ use Rattle.program_model.specs.Lookups.{method_at}
 use Rattle.ledger_obligations.specs.Bodies.{constructs, is_constructor_kind}
 use Rattle.java_control.specs.Calls.{called_method}
 use Rattle.java_control.specs.Control.{Step}
-use Rattle.java_control.specs.declared.action.Action.{Action}
-use Rattle.java_control.specs.declared.action.Action.TheVariants as actions
-use Rattle.java_control.specs.declared.action.TargetForm.{TargetForm}
-use Rattle.java_control.specs.declared.action.TargetForm.TheVariants as forms
+use Rattle.control_actions.specs.declared.action.Action.{Action}
+use Rattle.control_actions.specs.declared.action.Action.TheVariants as actions
+use Rattle.control_actions.specs.declared.action.TargetForm.{TargetForm}
+use Rattle.control_actions.specs.declared.action.TargetForm.TheVariants as forms
 use Rattle.value_laws.specs.Paths.{move_of}
 use Rattle.value_laws.specs.Accept.{Accept}
 use Rattle.ledger_state.specs.Contents.{HeapContents}

@@ -1,13 +1,13 @@
 -- What each step makes of ways up: objects stay as they were, and what is made, or finished, no field owns, nor a frame below.
-use Rattle.std.proofs.Common.{◌≡◌, ◌⊎◌, inl, inr, ℕ, ◌+◌, ◌<◌, ◌≤◌, Bool, true, false, not, true≢false, Option, None, Some, List, [], ◌∷◌, ltb-true, refl, sym, ap, ◌∙◌, subst, arith, if◌then◌else◌}
+use Rattle.std.proofs.Common.{◌≡◌, ◌⊎◌, inl, inr, ℕ, ◌≤◌, Bool, true, false, true≢false, Option, None, Some, List, [], ◌∷◌, ltb-true, refl, sym, ap, ◌∙◌, subst, arith, if◌then◌else◌}
 use Rattle.std.specs.Prelude.{nat_eq, nat_lt}
 use Rattle.program_model.specs.declared.kinds.ClassId.{ClassId}
 use Rattle.program_model.specs.declared.kinds.FieldId.{FieldId}
 use Rattle.program_model.specs.declared.program.Method.{Method}
 use Rattle.program_model.specs.declared.program.Program.{Program}
 use Rattle.program_model.specs.Lookups.{field_at}
-use Rattle.java_control.specs.declared.action.Action.{Action}
-use Rattle.java_control.specs.declared.action.Action.TheVariants as actions
+use Rattle.control_actions.specs.declared.action.Action.{Action}
+use Rattle.control_actions.specs.declared.action.Action.TheVariants as actions
 use Rattle.stub_conduct.specs.declared.choice.Conduct.{Conduct}
 use Rattle.stub_conduct.specs.declared.choice.Conduct.TheVariants as conducts
 use Rattle.ledger_obligations.specs.MustCallSets.{is_heavy_class}

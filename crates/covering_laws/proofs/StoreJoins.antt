@@ -1,7 +1,5 @@
 -- The top frame stores into an owning field of `this`: a constructor, into that of the object that its `new` makes; or a method that creates the obligation of `this` anew, which is lent to it.
-use Rattle.std.specs.Prelude.{◌&&◌}
-use Rattle.std.specs.FinSet as set
-use Rattle.std.proofs.Common.{◌≡◌, ◌⊎◌, inl, inr, ℕ, ◌+◌, ◌<◌, true, false, Some, None, List, ◌∷◌, slice_get, refl, sym, ap, ◌∙◌, ◌&&◌, if◌then◌else◌}
+use Rattle.std.proofs.Common.{◌≡◌, ◌⊎◌, inl, inr, ℕ, true, false, Some, None, List, ◌∷◌, slice_get, sym, ap}
 use Rattle.std.proofs.lemmas.List.Elements.{All-head}
 use Rattle.program_model.specs.declared.kinds.FieldId.{FieldId}
 use Rattle.program_model.specs.declared.program.Program.{Program}
@@ -9,17 +7,13 @@ use Rattle.program_model.specs.Lookups.{method_at}
 use Rattle.ledger_obligations.specs.Bodies.{constructs}
 use Rattle.ledger_obligations.specs.MustCallSets.{is_heavy_class}
 use Rattle.java_control.specs.Control.{Step}
-use Rattle.java_control.specs.declared.place.Place.TheVariants as places
-use Rattle.java_control.specs.declared.action.Action.TheVariants as actions
+use Rattle.control_actions.specs.declared.action.Action.TheVariants as actions
 use Rattle.value_laws.specs.Accept.{Accept}
 use Rattle.ledger_state.specs.Contents.{HeapContents}
 use Rattle.ledger_state.specs.Heaps.{object_at, unfinished}
-use Rattle.ledger_state.specs.declared.entry.Owner.TheVariants as owners
 use Rattle.ledger_state.specs.declared.object.Object.{Object}
 use Rattle.ledger_state.specs.declared.value.Value.{Value}
 use Rattle.ledger_state.specs.declared.value.Value.TheVariants as values
-use Rattle.ledger_obligations.specs.Obligations as obligations
-use Rattle.ledger_steps.specs.LedgerCallsCalls as ledger_calls
 use Rattle.value_laws.specs.Configuration.{Frame}
 use Rattle.value_laws.specs.Choosing.{frame_steps}
 use Rattle.value_laws.specs.Chains.{HaveEnds}
@@ -38,8 +32,6 @@ use Rattle.covering_laws.proofs.StoringThis.{IsReopened, IsItsField, its_class, 
 use Rattle.covering_laws.specs.Texts.{TextsAreLight}
 use Rattle.value_laws.specs.Types.{KeepsTypes, is_text}
 use Rattle.value_laws.specs.Renewing.{reopens}
-use Rattle.program_model.specs.declared.kinds.VType.TheVariants as kinds
-use Rattle.value_laws.specs.Operands as operand_types
 use Rattle.covering_laws.proofs.Storing.{storing}
 use Rattle.covering_laws.proofs.LinkedExceptions.{still_aliases}
 use Rattle.ledger_state.specs.Values.{number_of}

@@ -20,9 +20,9 @@ use Rattle.ledger_obligations.specs.MustCallSets.{fits_type, is_heavy_class, mus
 use Rattle.ownership_rules.specs.Signatures.{field_type, is_present, type_of_field}
 use Rattle.java_control.specs.Control.{Step}
 use Rattle.java_control.specs.Owned.{is_owning, is_owning_field}
-use Rattle.java_control.specs.declared.action.Action.{Action}
-use Rattle.java_control.specs.declared.place.Place.TheVariants as places
-use Rattle.java_control.specs.declared.action.Action.TheVariants as actions
+use Rattle.control_actions.specs.declared.action.Action.{Action}
+use Rattle.control_actions.specs.declared.place.Place.TheVariants as places
+use Rattle.control_actions.specs.declared.action.Action.TheVariants as actions
 use Rattle.value_laws.specs.Paths.{move_of}
 use Rattle.value_laws.specs.Accept.{Accept}
 use Rattle.ledger_state.specs.Contents.{HeapContents}
@@ -41,7 +41,6 @@ use Rattle.ledger_obligations.specs.Obligations.{is_library_owner, may_move, sto
 use Rattle.ledger_steps.specs.LedgerCallsCalls as ledger_calls
 use Rattle.ledger_steps.specs.LedgerCallsCalls.{object_by}
 use Rattle.value_laws.specs.Configuration.{Frame}
-use Rattle.value_laws.specs.Places.{class_of_method}
 use Rattle.value_laws.specs.Choosing.{frame_steps}
 use Rattle.value_laws.specs.Frames.{frame_after}
 use Rattle.ledger_steps.specs.InnerSteps.{heap_stored, is_bound, parameter, root_of_number, store_into, store_of, store_unless, thrown_heap}
@@ -128,12 +127,6 @@ unlinked_root h links n x at unfinished = ap Some (roots_of_links-itself h n x a
     none : (l : Option Link) → x.link ≡ l → x.link ≡ None
     none None is = is
     none (Some l) some = absurd (true≢false (sym (links n x l at some).finished ∙ unfinished))
-
--- the class of a method
-class_same : (m : Option Method) (c d : ClassId) → is_class_of c m ≡ true → class_of_method m ≡ Some d → c ≡ d
-class_same None c d is of = absurd (true≢false (sym is))
-class_same (Some m) c d is of =
-    ap (λ (n : ℕ). (let z : ClassId = record { 0 = n } in z)) (eqb-true c.0 m.class.0 is) ∙ (let both : Some m.class ≡ Some d = of in (let one : m.class ≡ d = cc in one))
 
 module _ (p : Program) (ac : Accept p) (forms : HasPlainForms p) (h : HeapContents) (links : HasEarlierLinks h) (fr : Frame) (frs : List Frame) (st : Stands p fr) (i : ℕ) (s : Step) (here : slice_get (frame_steps p fr) i ≡ Some s)
     (f : FieldId) (d : ℕ) (is : s.action ≡ actions.PutOwn f d) (plainly : StoresPlainly p (method_at p fr.method) f) (made : Value) (w : ℕ) (this : fr.locals.this ≡ values.Object w) (self : Object) (there : object_at h w ≡ Some self)

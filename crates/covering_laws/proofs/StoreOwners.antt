@@ -30,9 +30,6 @@ thrown_same p e h o x y before now = elim (exceptions_are_the_librarys p e h o y
   | inr new ↦ absurd (let number = new.0 in let range = numbers_are_in_range h o x before in let below = range.1 in omega (arith, number, below))
 ]
 
-pub thrown_keeps_library : (p : Program) (e : Option ClassId) (h : HeapContents) → KeepsLibrary h (thrown_heap p e h)
-thrown_keeps_library p e h o x y before now done is = ap (λ (z : Object). is_library_owner z.owner) (thrown_same p e h o x y before now) ∙ is
-
 pub thrown_owners_go : (p : Program) (e : Option ClassId) (h : HeapContents) (into : Option ℕ) (below : List Frame) (j : ℕ) → OwnersGo p into below j h (thrown_heap p e h)
 thrown_owners_go p e h into below j o x y before now done heavy = stays (ap (λ (z : Object). z.owner) (thrown_same p e h o x y before now))
 

@@ -1,5 +1,5 @@
 -- The top frame, a constructor or a method that creates the obligation of `this` anew, stores into an owning field of `this`: what the places of the frames hold stays covered.
-use Rattle.std.proofs.Common.{◌≡◌, ◌⊎◌, inl, inr, ℕ, ◌+◌, ◌<◌, arith, Bool, true, false, not, ◌&&◌, ◌||◌, cond, Option, Some, None, List, [], ◌∷◌, length, slice_get, nat_eq, eqb, eq-eqb, eqb-true, refl, sym, ap, ◌∙◌, subst, true≢false, if◌then◌else◌}
+use Rattle.std.proofs.Common.{◌≡◌, ◌⊎◌, inl, inr, ℕ, ◌+◌, ◌<◌, arith, Bool, true, false, not, ◌&&◌, cond, Option, Some, None, List, [], ◌∷◌, length, slice_get, nat_eq, eqb, eq-eqb, eqb-true, refl, sym, ap, ◌∙◌, subst, true≢false, if◌then◌else◌}
 use Rattle.std.specs.FinSet as set
 use Rattle.std.proofs.lemmas.Bool.{and_from, and_parts, or_left, or_right, not-true}
 use Rattle.rlc_base.proofs.SetLaws.{within_trans}
@@ -13,14 +13,14 @@ use Rattle.java_control.specs.Control.{Step}
 use Rattle.java_control.specs.Owned.{field_number, place_of_field}
 use Rattle.java_control.specs.PlaceNumbers.{IsSmall, number_of}
 use Rattle.java_control.specs.Sources.{is_place, source}
-use Rattle.java_control.specs.declared.action.Action.{Action}
-use Rattle.java_control.specs.declared.action.Action.TheVariants as actions
-use Rattle.java_control.specs.declared.fact.Fact.{Fact}
-use Rattle.java_control.specs.declared.fact.Mode.TheVariants as modes
-use Rattle.java_control.specs.declared.fact.Origin.{Origin}
-use Rattle.java_control.specs.declared.fact.OriginKind.{OriginKind}
-use Rattle.java_control.specs.declared.place.Place.{Place}
-use Rattle.java_control.specs.declared.place.Place.TheVariants as places
+use Rattle.control_actions.specs.declared.action.Action.{Action}
+use Rattle.control_actions.specs.declared.action.Action.TheVariants as actions
+use Rattle.control_actions.specs.declared.fact.Fact.{Fact}
+use Rattle.control_actions.specs.declared.fact.Mode.TheVariants as modes
+use Rattle.control_actions.specs.declared.fact.Origin.{Origin}
+use Rattle.control_actions.specs.declared.fact.OriginKind.{OriginKind}
+use Rattle.control_actions.specs.declared.place.Place.{Place}
+use Rattle.control_actions.specs.declared.place.Place.TheVariants as places
 use Rattle.ownership_rules.specs.Facts.{PlaceSet, has, is_held, is_origin_at, is_own, without}
 use Rattle.ownership_rules.specs.SmallActions.{IsSmallAction}
 use Rattle.value_laws.specs.OwningFieldsStores.{is_heavy_store}
@@ -242,7 +242,7 @@ module _ (p : Program) (ac : Accept p) (forms : HasPlainForms p) (h k : HeapCont
       by true aliased = inr aliased
 
   -- what is held apart after the store was so before it
-  apart_then : (o : ℕ) (x y : Object) (f' g : Fact) → object_at h o ≡ Some x → object_at k o ≡ Some y → x.finished ≡ true → is_heavy_class p x.class ≡ true → IsApart p k old frs after o y.owner g → IsApart p h old frs fr o x.owner f'
+  apart_then : (o : ℕ) (x y : Object) (f' g : Fact) → object_at h o ≡ Some x → object_at k o ≡ Some y → x.finished ≡ true → is_heavy_class p x.class ≡ true → IsApart p k old frs after o g → IsApart p h old frs fr o f'
   apart_then o x y f' g before now' done heavy = apart_before p h k old frs fr after o x y f' g others aged before now' done heavy (said' f')
 
   -- ---- a fact over the store
@@ -385,7 +385,7 @@ module _ (p : Program) (ac : Accept p) (forms : HasPlainForms p) (h k : HeapCont
           taken_free (inl own) alone = (refl, t.heavy, taken_field own)
           taken_free (inr alias) alone = absurd (not_alone alias.0 alone)
 
-          taken_known : (c.fact.mode ≡ modes.Own) ⊎ ((is_alias_constructor p st.number ≡ true) × (c.fact.mode ≡ modes.Alias)) → y.finished ≡ true → tells_calls p fr.method c.origin g ≡ true → IsApart p k old frs after o y.owner g
+          taken_known : (c.fact.mode ≡ modes.Own) ⊎ ((is_alias_constructor p st.number ≡ true) × (c.fact.mode ≡ modes.Alias)) → y.finished ≡ true → tells_calls p fr.method c.origin g ≡ true → IsApart p k old frs after o g
               → set.is_subset g.called (set.union asked y.called) ≡ true
           taken_known (inl own) finished' tells apart = absurd (elim alone_or_aliased [
             | inl alone ↦ true≢false (sym alone ∙ other_alone (is_held g.mode) (answers_for_fields (method_at p fr.method)) (ap is_held t.mode) (tells_apart p fr.method c.origin g tells))

@@ -1,7 +1,7 @@
 -- Over a store into a field of a finished object, which is lent to the frame that stores, the places of frames below of which something is said hold what they held: a frame that runs on the same object lends it, or it
 -- is one that says nothing of what the fields of its `this` hold.
 use Rattle.std.specs.Prelude.{if◌then◌else◌}
-use Rattle.std.proofs.Common.{◌≡◌, ◌⊎◌, inl, inr, ℕ, ◌+◌, ◌<◌, Bool, true, false, not, ◌&&◌, ◌||◌, Option, Some, None, List, [], ◌∷◌, ◌++◌, slice_get, refl, sym, ap, ◌∙◌, subst, true≢false, eq-eqb}
+use Rattle.std.proofs.Common.{◌≡◌, ◌⊎◌, inl, inr, ℕ, ◌+◌, ◌<◌, Bool, true, false, not, Option, Some, None, List, [], ◌∷◌, ◌++◌, slice_get, refl, sym, ap, ◌∙◌, subst, true≢false, eq-eqb}
 use Rattle.std.proofs.lemmas.Option.{slice_get-get_or}
 use Rattle.std.proofs.lemmas.Bool.{and_from}
 use Rattle.rlc_base.proofs.SetLaws.{within_self}
@@ -23,13 +23,12 @@ use Rattle.program_model.specs.Lookups.{body_at, field_at, method_at, optional, 
 use Rattle.program_model.specs.Overrides.{is_library}
 use Rattle.program_model.specs.SuperTests.{is_class}
 use Rattle.java_control.specs.Remaining.{Todo}
-use Rattle.java_control.specs.declared.fact.Fact.{Fact}
-use Rattle.java_control.specs.declared.fact.Origin.{Origin}
-use Rattle.java_control.specs.declared.fact.OriginKind.{OriginKind}
-use Rattle.java_control.specs.declared.fact.OriginKind.TheVariants as kinds
-use Rattle.java_control.specs.declared.place.Place.TheVariants as places
+use Rattle.control_actions.specs.declared.fact.Fact.{Fact}
+use Rattle.control_actions.specs.declared.fact.Origin.{Origin}
+use Rattle.control_actions.specs.declared.fact.OriginKind.TheVariants as kinds
+use Rattle.control_actions.specs.declared.place.Place.TheVariants as places
 use Rattle.ledger_obligations.specs.Bodies.{constructs, fields_in, fields_of, fields_of_method, has_field_place, is_constructor, is_constructor_kind, is_field_in, method_of, reset_in, resets_this}
-use Rattle.ledger_obligations.specs.MustCallSets.{fits_type, is_empty, is_heavy_class, must_of, must_of_optional, must_of_type, no_names}
+use Rattle.ledger_obligations.specs.MustCallSets.{fits_type, is_empty, is_heavy_class, must_of, must_of_optional, no_names}
 use Rattle.ownership_rules.specs.Births.{Birth, births_at_entry, entry_births_in, entry_births_of, fact_at, has_this, held_births, origin_of, parameter_birth, parameter_births, parameter_mode, this_birth, this_mode}
 use Rattle.ownership_rules.specs.Facts.{has, position_of}
 use Rattle.ownership_rules.specs.Signatures.{field_type, is_position, type_of_field}

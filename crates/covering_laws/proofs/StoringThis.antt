@@ -1,5 +1,5 @@
 -- The `this` of a frame that stores into one of its owning fields: a constructor makes it, and it is not finished; or the frame's method creates its obligation anew, and it is finished, linked to none, and lent.
-use Rattle.std.proofs.Common.{◌≡◌, ◌⊎◌, inl, inr, ℕ, Bool, true, false, not, ◌&&◌, Option, Some, None, List, ◌∷◌, slice_get, refl, sym, ap, ◌∙◌, subst, true≢false, eqb-true}
+use Rattle.std.proofs.Common.{◌≡◌, ◌⊎◌, inl, inr, ℕ, Bool, true, false, not, Option, Some, None, List, ◌∷◌, slice_get, refl, sym, ap, ◌∙◌, true≢false, eqb-true}
 use Rattle.std.proofs.lemmas.Bool.{and_parts, or_right}
 use Rattle.program_model.specs.declared.kinds.ClassId.{ClassId}
 use Rattle.program_model.specs.declared.kinds.FieldId.{FieldId}
@@ -10,11 +10,9 @@ use Rattle.program_model.specs.Lookups.{field_at, method_at}
 use Rattle.program_model.specs.Overrides.{is_library}
 use Rattle.program_model.specs.SuperTests.{is_class, is_under}
 use Rattle.java_control.specs.Control.{Step}
-use Rattle.java_control.specs.declared.action.Action.TheVariants as actions
-use Rattle.java_control.specs.declared.fact.Mode.TheVariants as modes
+use Rattle.control_actions.specs.declared.action.Action.TheVariants as actions
 use Rattle.ledger_obligations.specs.Bodies.{constructs, has_field_place, is_class_of, is_field_in, method_of, reset_in}
 use Rattle.ledger_obligations.specs.MustCallSets.{is_heavy_class}
-use Rattle.ownership_rules.specs.Facts.{is_this_origin}
 use Rattle.ownership_rules.specs.Signatures.{is_position}
 use Rattle.ledger_state.specs.Contents.{HeapContents}
 use Rattle.ledger_state.specs.Heaps.{object_at, root_of}
@@ -28,7 +26,7 @@ use Rattle.value_laws.specs.FieldContents.{AreUnfinished, FieldsOwn}
 use Rattle.value_laws.specs.Frames.{KeepsTargets}
 use Rattle.value_laws.specs.Heaps.{HasEarlierLinks}
 use Rattle.value_laws.specs.Paths.{move_of}
-use Rattle.value_laws.specs.PlaceFacts.{Covers, IsCovered, MakesNoAlias, MayStore, OwesOrHolds, gives_none, renews_none}
+use Rattle.value_laws.specs.PlaceFacts.{IsCovered, MakesNoAlias, MayStore, gives_none, renews_none}
 use Rattle.value_laws.specs.PlainForms.{HasPlainForms, StoresPlainly}
 use Rattle.value_laws.specs.Ranges.{LocalsInRange}
 use Rattle.value_laws.specs.Renewing.{HasOwningField, IsLentFrom, IsWholeObject, is_of_heavy_class, makes_alone, reopens}

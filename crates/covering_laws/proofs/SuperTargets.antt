@@ -7,8 +7,8 @@ use Rattle.ledger_obligations.specs.Bodies.{constructs, reset_in}
 use Rattle.ledger_obligations.specs.MustCallSets.{is_heavy_class}
 use Rattle.java_control.specs.Calls.{is_reset_of_this, operand_at}
 use Rattle.java_control.specs.Control.{Step}
-use Rattle.java_control.specs.declared.fact.Mode.TheVariants as modes
-use Rattle.java_control.specs.declared.place.Place.TheVariants as places
+use Rattle.control_actions.specs.declared.fact.Mode.TheVariants as modes
+use Rattle.control_actions.specs.declared.place.Place.TheVariants as places
 use Rattle.ownership_rules.specs.Callees.{callee, is_this_target}
 use Rattle.ownership_rules.specs.Facts.{has, is_held, is_this_origin}
 use Rattle.ledger_state.specs.Contents.{HeapContents}
@@ -36,7 +36,7 @@ module _ (p : Program) (ac : Accept p) (forms : HasPlainForms p) (h : HeapConten
     (heavy : is_heavy_class p x.class ≡ true) (owes : OwesOrHolds p h o x) (other : is_reset_of_this p s.action ≡ false) (k : ℕ) (position : reset_in (callee p s.action) ≡ Some (k + 1)) (root : root_of h (operand_of fr.locals s.action (k + 1)) ≡ Some o)
     (open' : x.finished ≡ false) (fields : HasOwningField p x.class) (makes : constructs (method_at p fr.method) ≡ true) (this : fr.locals.this ≡ values.Object o) where
   abbrev t : (n : ℕ) × (operand_at s.action (k + 1) ≡ Some n) × (operand_of fr.locals s.action (k + 1) ≡ temp_value fr.locals n)
-  t = temp p ac forms h fr st old frs i s here row covered holds have targets making o x before heavy owes (k + 1) position root
+  t = temp p ac h fr st old frs i s here row covered holds have targets making o x before heavy owes (k + 1) position root
 
   no_and : (b : Bool) → (b && false) ≡ false
   no_and true = refl
@@ -53,7 +53,7 @@ module _ (p : Program) (ac : Accept p) (forms : HasPlainForms p) (h : HeapConten
       go : (b : Bool) → is_this_origin c.origin.kind ≡ b → ⊥
       go false origin = (c.begun mode (ap (λ (b : Bool). constructs (method_at p fr.method) && b) origin ∙ no_and (constructs (method_at p fr.method))) fields open').2 makes this
       go true origin =
-          let is = answer p ac forms h fr st old frs i s here row covered holds have targets making o x before heavy owes (k + 1) position root c in' in
+          let is = answer p ac h fr st old frs i s here row covered holds have targets making o x before heavy owes (k + 1) position root c in' in
           let number : is.0 ≡ k + 1 = (let both : Some is.0 ≡ Some (k + 1) = sym is.1 ∙ position in cc) in
           true≢false (sym (and_from (is_this_origin c.origin.kind) (not (nat_eq is.0 0 && is_this_target s.action)) origin (ap (λ (b : Bool). not (b && is_this_target s.action)) (no_zero is.0 number))) ∙ is.2.shown)
         where
@@ -65,11 +65,11 @@ module _ (p : Program) (ac : Accept p) (forms : HasPlainForms p) (h : HeapConten
               by true same = absurd (let zero' = eqb-true n 0 same in omega (arith, zero', is'))
 
   pub not_this : ⊥
-  not_this = by (covered (places.Temp t.0) o x (small p ac forms h fr st old frs i s here row covered holds have targets making o x before heavy owes (k + 1) position root) refl (ap (root_of h) (sym t.2) ∙ root) before heavy owes)
+  not_this = by (covered (places.Temp t.0) o x (small p ac h fr st old frs i s here row covered holds have targets making o x before heavy owes (k + 1) position root) refl (ap (root_of h) (sym t.2) ∙ root) before heavy owes)
     where
       by : IsKeyed p h false false old frs fr (places.Temp t.0) o x → ⊥
       by (owned c in' key) = not_claimed c key
-      by (unowned u) = elim (its_mode p ac forms h fr st old frs i s here row covered holds have targets making o x before heavy owes (k + 1) position root u.covers u.here) [
+      by (unowned u) = elim (its_mode p ac h fr st old frs i s here row covered holds have targets making o x before heavy owes (k + 1) position root u.covers u.here) [
         | inl claimed ↦ true≢false (sym claimed ∙ u.unowned)
         | inr lent ↦ not_lent u.covers u.here lent
       ]

@@ -1,22 +1,18 @@
 -- A call creates the obligation of an object anew that the frame tracks: the frame goes on to track it, with no name called and all that its
 -- class asks for needed.
-use Rattle.std.proofs.Common.{◌≡◌, ◌⊎◌, inl, inr, ℕ, Bool, true, false, Option, Some, None, slice_get, refl, sym, ap, ◌∙◌, subst}
+use Rattle.std.proofs.Common.{◌≡◌, ◌⊎◌, inl, inr, ℕ, Bool, true, false, Some, slice_get, refl, sym, ap, ◌∙◌, subst}
 use Rattle.std.specs.FinSet as set
 use Rattle.program_model.specs.declared.kinds.BodyId.{BodyId}
 use Rattle.program_model.specs.declared.program.Program.{Program}
 use Rattle.java_control.specs.Control.{Step}
-use Rattle.java_control.specs.declared.action.Action.{Action}
-use Rattle.java_control.specs.declared.fact.Fact.{Fact}
-use Rattle.java_control.specs.declared.fact.Mode.TheVariants as modes
-use Rattle.ownership_rules.specs.Facts.{Names, PlaceSet, is_met, is_nowhere, need}
+use Rattle.control_actions.specs.declared.action.Action.{Action}
+use Rattle.control_actions.specs.declared.fact.Fact.{Fact}
+use Rattle.control_actions.specs.declared.fact.Mode.TheVariants as modes
+use Rattle.ownership_rules.specs.Facts.{PlaceSet, is_nowhere, need}
 use Rattle.ledger_obligations.specs.MustCallSets.{fits, must_of, no_names}
-use Rattle.ledger_obligations.specs.Bodies.{reset_in}
-use Rattle.ownership_rules.specs.Callees.{callee}
 use Rattle.value_laws.specs.Aliases.{gives_alias}
-use Rattle.value_laws.specs.CalledRows.{called_after}
 use Rattle.value_laws.specs.PlaceRows.{places_after}
 use Rattle.ledger_obligations.specs.Obligations.{is_unmet}
-use Rattle.value_laws.specs.Flow.{flow}
 use Rattle.value_laws.specs.Accept.{Accept}
 use Rattle.value_laws.specs.Paths.{Reach, move_of, relation_of}
 use Rattle.ledger_state.specs.Contents.{HeapContents}
@@ -32,9 +28,9 @@ use Rattle.value_laws.specs.PlacePlaces.{IsWay}
 use Rattle.value_laws.specs.Agreement.{Follows, Stands, Tracks, TracksAs}
 use Rattle.value_laws.specs.Renewing.{fact_as}
 use Rattle.value_laws.specs.PlainForms.{HasPlainForms}
-use Rattle.value_laws.specs.Outcomes.{After, IsCallRow}
+use Rattle.value_laws.specs.Outcomes.{IsCallRow}
 use Rattle.value_laws.proofs.OwedFacts.{owed}
-use Rattle.value_laws.specs.Anew.{holds_target, is_target}
+use Rattle.value_laws.specs.Anew.{is_target}
 use Rattle.value_laws.proofs.Resetting.{anew_row}
 use Rattle.value_laws.proofs.Needs.{origin_needs_all}
 use Rattle.value_laws.specs.Steps.{RootsStay}
@@ -43,10 +39,6 @@ use Rattle.value_laws.proofs.Readings.{mode_as, read_as}
 use Rattle.value_laws.proofs.FrameFollowing.{followed}
 use Rattle.value_laws.proofs.Ready.{call_sets, ready, step_there}
 use Rattle.value_laws.proofs.Tracking.{same_body}
-
--- a call that creates no obligation anew has no target
-pub untargeted : (p : Program) (a : Action) (held : PlaceSet) → reset_in (callee p a) ≡ None → is_target p a held ≡ false
-untargeted p a held none = ap (holds_target a held) none
 
 pub target_or_not : (p : Program) (a : Action) (held : PlaceSet) → (is_target p a held ≡ true) ⊎ (is_target p a held ≡ false)
 target_or_not p a held = go (is_target p a held) refl

@@ -20,7 +20,7 @@ use Rattle.ledger_obligations.specs.MustCallSets.{is_heavy_class, must_of, must_
 use Rattle.ledger_obligations.specs.Obligations.{is_library_owner}
 use Rattle.java_control.specs.Calls.{called_method}
 use Rattle.java_control.specs.Owned.{is_owning_field}
-use Rattle.java_control.specs.declared.action.Action.{Action}
+use Rattle.control_actions.specs.declared.action.Action.{Action}
 use Rattle.ownership_rules.specs.Callees.{callee, callee_in}
 use Rattle.ownership_rules.specs.Signatures.{is_position}
 use Rattle.ledger_state.specs.Contents.{HeapContents}
@@ -135,7 +135,7 @@ module _ (p : Program) (ac : Accept p) (forms : HasPlainForms p) (h : HeapConten
 
   -- so the caller has it in hand
   in_hand : HasInHand p h (IsLentFrom p h frs) (length frs + 1) fr w there.0.owner
-  in_hand = renewed_answered p ac forms h fr (stand.0) old frs next.index next.step next.here row covered holds have targets makes w there.0 there.1 full (inr (inr stores)) renews_it (inr declared)
+  in_hand = renewed_answered p ac h fr (stand.0) old frs next.index next.step next.here row covered holds have targets makes w there.0 there.1 full (inr (inr stores)) renews_it (inr declared)
 
   -- So the field owns the object, and its birth is true of it: `this` is finished, linked to none, and not the library's, or a frame below makes it.
   module _ (contents : HaveContents p (fr ∷ frs) h) (makers : MakersOwn p h (fr ∷ frs)) (owes : OwesOrHolds p h o x) where

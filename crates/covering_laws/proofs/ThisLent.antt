@@ -1,5 +1,5 @@
 -- The fact of `this` in a constructor, and in a method that creates the obligation of `this` anew: `this` is lent.
-use Rattle.std.proofs.Common.{◌≡◌, ◌⊎◌, inl, inr, ap, refl, sym, subst, ◌∙◌, ℕ, Bool, true, false, not, ◌&&◌, ◌||◌, true≢false, Option, Some, None, List}
+use Rattle.std.proofs.Common.{◌≡◌, inl, inr, ap, refl, sym, subst, ◌∙◌, ℕ, Bool, true, false, not, ◌&&◌, ◌||◌, true≢false, Option, Some, None, List}
 use Rattle.std.proofs.lemmas.Bool.{and_parts, or_left, or_right}
 use Rattle.program_model.specs.declared.kinds.BodyId.{BodyId}
 use Rattle.program_model.specs.declared.kinds.ClassId.{ClassId}
@@ -8,9 +8,9 @@ use Rattle.program_model.specs.declared.program.Program.{Program}
 use Rattle.program_model.specs.Lookups.{method_at}
 use Rattle.ledger_obligations.specs.Bodies.{alias_in, constructs, is_constructor_kind, reset_in}
 use Rattle.ledger_obligations.specs.MustCallSets.{is_heavy_class}
-use Rattle.java_control.specs.declared.fact.Mode.{Mode}
-use Rattle.java_control.specs.declared.fact.Mode.TheVariants as modes
-use Rattle.java_control.specs.declared.place.Place.TheVariants as places
+use Rattle.control_actions.specs.declared.fact.Mode.{Mode}
+use Rattle.control_actions.specs.declared.fact.Mode.TheVariants as modes
+use Rattle.control_actions.specs.declared.place.Place.TheVariants as places
 use Rattle.ownership_rules.specs.Facts.{has, is_lent, is_this_origin}
 use Rattle.ownership_rules.specs.Signatures.{is_position, is_present}
 use Rattle.ledger_state.specs.Contents.{HeapContents}
@@ -50,6 +50,7 @@ module _ (p : Program) (ac : Accept p) (h : HeapContents) (fr : Frame) (st : Sta
         (sym (ap (λ (m : Option Method). is_position (reset_in m) 0) running.2) ∙ (and_parts (not (constructs (method_at p fr.method))) (is_position (reset_in (method_at p fr.method)) 0) opens).1)
   ]
 
+  -- a fact with the place `this` is lent
   pub this_lent : (away anew : Bool) (o : ℕ) (x : Object) (c : Covers p h away anew old frs fr o x) → has c.fact.places places.This ≡ true → c.fact.mode ≡ modes.Lent
   this_lent away anew o x c is =
       let reach = subst (λ (b : BodyId). Reach p b (relation_of p b) c.origin fr.control c.fact) (same_body c.body st.number (body_id p fr.method) c.id st.id) c.reached in

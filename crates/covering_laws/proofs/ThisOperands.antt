@@ -9,10 +9,10 @@ use Rattle.program_model.specs.Lookups.{method_at}
 use Rattle.ledger_obligations.specs.Bodies.{reset_in}
 use Rattle.java_control.specs.Calls.{is_receiver, is_reset_of_this, resets_receiver, temp_at}
 use Rattle.java_control.specs.Control.{Step}
-use Rattle.java_control.specs.declared.action.Action.{Action}
-use Rattle.java_control.specs.declared.action.Action.TheVariants as actions
-use Rattle.java_control.specs.declared.action.TargetForm.{TargetForm}
-use Rattle.java_control.specs.declared.action.TargetForm.TheVariants as forms
+use Rattle.control_actions.specs.declared.action.Action.{Action}
+use Rattle.control_actions.specs.declared.action.Action.TheVariants as actions
+use Rattle.control_actions.specs.declared.action.TargetForm.{TargetForm}
+use Rattle.control_actions.specs.declared.action.TargetForm.TheVariants as forms
 use Rattle.ownership_rules.specs.Callees.{callee, is_this_target}
 use Rattle.ownership_rules.specs.SmallActions.{IsSmallAction}
 use Rattle.ledger_state.specs.Contents.{HeapContents}

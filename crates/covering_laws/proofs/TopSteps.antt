@@ -1,6 +1,6 @@
 -- The top frame takes a step of its own that stores into no owning field, or a step of a call that has ended: what its places hold
 -- stays covered.
-use Rattle.std.proofs.Common.{◌≡◌, ◌⊎◌, inl, inr, ℕ, ◌+◌, ◌<◌, ◌≤◌, Bool, cond, true, false, not, ◌&&◌, ◌||◌, Option, Some, None, List, length, slice_get, refl, sym, ap, ◌∙◌, subst, true≢false}
+use Rattle.std.proofs.Common.{◌≡◌, ◌⊎◌, inl, inr, ℕ, ◌+◌, ◌<◌, Bool, cond, true, false, not, ◌&&◌, ◌||◌, Option, Some, None, List, length, slice_get, refl, sym, ap, ◌∙◌, subst, true≢false}
 use Rattle.std.specs.FinSet as set
 use Rattle.std.proofs.lemmas.Bool.{and_from, and_parts, or_left, or_right}
 use Rattle.program_model.specs.declared.kinds.BodyId.{BodyId}
@@ -14,12 +14,12 @@ use Rattle.java_control.specs.Control.{Step}
 use Rattle.java_control.specs.Owned.{place_of_field}
 use Rattle.java_control.specs.PlaceNumbers.{IsSmall, number_of}
 use Rattle.java_control.specs.Sources.{is_part, source}
-use Rattle.java_control.specs.declared.action.Action.TheVariants as actions
-use Rattle.java_control.specs.declared.action.PlainValue.{PlainValue}
-use Rattle.java_control.specs.declared.fact.Fact.{Fact}
-use Rattle.java_control.specs.declared.fact.Origin.{Origin}
-use Rattle.java_control.specs.declared.place.Place.{Place}
-use Rattle.java_control.specs.declared.place.Place.TheVariants as places
+use Rattle.control_actions.specs.declared.action.Action.TheVariants as actions
+use Rattle.control_actions.specs.declared.action.PlainValue.{PlainValue}
+use Rattle.control_actions.specs.declared.fact.Fact.{Fact}
+use Rattle.control_actions.specs.declared.fact.Origin.{Origin}
+use Rattle.control_actions.specs.declared.place.Place.{Place}
+use Rattle.control_actions.specs.declared.place.Place.TheVariants as places
 use Rattle.ownership_rules.specs.Facts.{PlaceSet, has, is_held, is_own}
 use Rattle.ownership_rules.specs.SmallActions.{IsSmallAction}
 use Rattle.value_laws.specs.Aliases.{gives_alias}
@@ -61,8 +61,8 @@ use Rattle.value_laws.proofs.Needs.{origin_needs_all}
 use Rattle.covering_laws.proofs.Waiting.{heavy_stays, kept_root, Carries, Continues, HoldsThere, IsCarried, KeepsFieldsButTexts, KeepsReady, KeepsRootsOf, idle_as, numbered, own_not_held, bore_before, kept_place, still_true, stays_unowned, still_unfinished, was_open}
 use Rattle.rlc_base.proofs.SetLaws.{within_self, within_trans, within_union_right}
 use Rattle.program_model.specs.Lookups.{method_at}
-use Rattle.java_control.specs.declared.fact.Outcome.{Outcome}
-use Rattle.java_control.specs.declared.fact.Outcome.TheVariants.{Next, Gone, Fault}
+use Rattle.control_actions.specs.declared.fact.Outcome.{Outcome}
+use Rattle.control_actions.specs.declared.fact.Outcome.TheVariants.{Next, Gone, Fault}
 
 -- what a step makes of a fact, which is so in other words too
 pub after_as : (P Q : Fact → Type 0) (x : Outcome) → ((g : Fact) → P g → Q g) → After P x → After Q x
@@ -188,11 +188,11 @@ module _ (p : Program) (ac : Accept p) (h k : HeapContents) (links : HasEarlierL
   -- The fact claims the object, which is not given away; or it tells of calls, and what it knows was called: the object was old when the frame began, and the call that began it spares it.
   abbrev pub IsSure : (old : ℕ → Bool) (frs : List Frame) (away anew : Bool) (o : ℕ) (x : Object) → Covers p h away anew old frs fr o x → Type 0
   IsSure old frs away anew o x c =
-      ((claims p (method_at p fr.method) c.origin c.fact ≡ true) × (away ≡ false)) ⊎ ((tells_calls p fr.method c.origin c.fact ≡ true) × IsApart p h old frs fr o x.owner c.fact)
+      ((claims p (method_at p fr.method) c.origin c.fact ≡ true) × (away ≡ false)) ⊎ ((tells_calls p fr.method c.origin c.fact ≡ true) × IsApart p h old frs fr o c.fact)
 
   -- so it is where the fact is the one that owns the object
   abbrev pub IsSureOf : (old : ℕ → Bool) (frs : List Frame) (away anew : Bool) (o : ℕ) (x : Object) → Covers p h away anew old frs fr o x → Type 0
-  IsSureOf old frs away anew o x c = (IsOwned p h away anew old frs fr o x c × (away ≡ false)) ⊎ ((tells_calls p fr.method c.origin c.fact ≡ true) × IsApart p h old frs fr o x.owner c.fact)
+  IsSureOf old frs away anew o x c = (IsOwned p h away anew old frs fr o x c × (away ≡ false)) ⊎ ((tells_calls p fr.method c.origin c.fact ≡ true) × IsApart p h old frs fr o c.fact)
 
   -- A fact of which nothing is said says that a field of `this` holds its object, and does so still.
   abbrev pub StaysIdle : List Frame → Type 0
@@ -362,7 +362,7 @@ module _ (p : Program) (ac : Accept p) (h k : HeapContents) (links : HasEarlierL
       abbrev asked : Names
       asked = asked_of p (method_at p fr.method) c.origin.kind
 
-      was_apart : x.finished ≡ true → IsApart p k old frs after o y.owner g → IsApart p h old frs fr o x.owner c.fact
+      was_apart : x.finished ≡ true → IsApart p k old frs after o g → IsApart p h old frs fr o c.fact
       was_apart was_done apart = apart_before p h k old frs fr after o x y c.fact g others aged before at was_done wide (said_before apart.3) apart
 
       pub covers_on : Covers p k false anew old frs after o y

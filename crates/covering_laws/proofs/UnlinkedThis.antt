@@ -1,7 +1,7 @@
 -- The object whose method creates its obligation anew is linked to none: no class of the program with such a method, of its own or from above, has a constructor that makes an alias.
-use Rattle.std.proofs.Common.{◌≡◌, ◌⊎◌, ◌∙◌, inl, inr, eqb-true, ℕ, Bool, true, false, true≢false, not, ◌&&◌, ◌||◌, Option, Some, None, List, [], ◌∷◌, ◌++◌, Contains, IsSomeAnd, map, option_map, length, slice_get, refl, sym, ap, subst}
+use Rattle.std.proofs.Common.{◌≡◌, ◌⊎◌, ◌∙◌, inl, inr, eqb-true, ℕ, Bool, true, false, true≢false, not, ◌&&◌, ◌||◌, Option, Some, None, List, [], ◌++◌, Contains, IsSomeAnd, option_map, length, slice_get, refl, sym, ap, subst}
 use Rattle.std.specs.List.{flat_map, list_any, range_with_len}
-use Rattle.std.proofs.lemmas.Bool.{and_from, and_parts, or_left, or_parts, or_right}
+use Rattle.std.proofs.lemmas.Bool.{and_from, and_parts, or_left, or_right}
 use Rattle.std.proofs.lemmas.Option.{slice_get-get_or, slice_get-map, slice_get_within}
 use Rattle.rlc_base.specs.declared.code.Code.TheVariants as refused
 use Rattle.program_model.specs.declared.kinds.ClassId.{ClassId}
@@ -14,7 +14,6 @@ use Rattle.program_model.specs.declared.program.Program.{Program}
 use Rattle.program_model.specs.Lookups.{class_at, method_at}
 use Rattle.program_model.specs.Overrides.{is_library, is_library_in}
 use Rattle.program_model.specs.SuperTests.{is_under}
-use Rattle.refusal_order.specs.Refusals.{refused_at, where_true}
 use Rattle.ledger_obligations.specs.AliasCases.{alias_cases_in, alias_cases_of_method, alias_cases_of_override, is_alias_class, is_alias_constructor_in, is_bad_alias_class, is_heavy_super, is_one_final, owning_fields, resets_near}
 use Rattle.must_call_sets.specs.Overridings.{class_ids, overridings}
 use Rattle.ledger_obligations.specs.Bodies.{constructs, is_constructor_kind, reset_in}

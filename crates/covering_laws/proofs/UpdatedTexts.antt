@@ -1,5 +1,5 @@
 -- Other operators than `=` store texts alone into owning fields, in the place of texts.
-use Rattle.std.proofs.Common.{◌≡◌, List, [], ◌∷◌, ◌∙◌, subst}
+use Rattle.std.proofs.Common.{List, [], ◌∷◌, subst}
 use Rattle.program_model.specs.declared.program.Program.{Program}
 use Rattle.ledger_state.specs.Contents.{HeapContents}
 use Rattle.ledger_state.specs.Fields.{field_value}

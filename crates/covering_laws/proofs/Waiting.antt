@@ -11,10 +11,10 @@ use Rattle.ledger_obligations.specs.Bodies.{constructs}
 use Rattle.ledger_obligations.specs.MustCallSets.{Names, fits, is_heavy_class, must_of}
 use Rattle.java_control.specs.Owned.{is_owning}
 use Rattle.java_control.specs.PlaceNumbers.{IsSmall}
-use Rattle.java_control.specs.declared.fact.Fact.{Fact}
-use Rattle.java_control.specs.declared.fact.Origin.{Origin}
-use Rattle.java_control.specs.declared.place.Place.{Place}
-use Rattle.java_control.specs.declared.place.Place.TheVariants as places
+use Rattle.control_actions.specs.declared.fact.Fact.{Fact}
+use Rattle.control_actions.specs.declared.fact.Origin.{Origin}
+use Rattle.control_actions.specs.declared.place.Place.{Place}
+use Rattle.control_actions.specs.declared.place.Place.TheVariants as places
 use Rattle.ownership_rules.specs.Facts.{has, need, is_held, is_own}
 use Rattle.ledger_state.specs.Contents.{HeapContents}
 use Rattle.ledger_state.specs.Fields.{field_of, field_value}
@@ -32,7 +32,7 @@ use Rattle.java_control.specs.Owned.{fields_in}
 use Rattle.value_laws.specs.Heaps.{GoesOn, HasEarlierLinks, KeepsLinks}
 use Rattle.value_laws.proofs.HeapLaws.{numbers_are_in_range, roots_go_on-number, roots_of_links-absent, roots_of_links-itself, roots_of_links-there}
 use Rattle.ledger_obligations.specs.Obligations.{is_library_owner}
-use Rattle.value_laws.specs.PlaceFacts.{AreWaiting, Covers, IsCovered, IsInField, IsKeyed, IsOld, IsOwned, IsTrueOf, IsUnowned, MayStore, OwesOrHolds, asked_of, is_given, is_idle, is_lent_place, is_owning_fact, is_settled, leaves_all, may_owe, owned, run_on_one, unowned}
+use Rattle.value_laws.specs.PlaceFacts.{AreWaiting, Covers, IsCovered, IsInField, IsKeyed, IsOld, IsOwned, IsTrueOf, IsUnowned, MayStore, OwesOrHolds, asked_of, is_field_place, is_given, is_idle, is_lent_place, is_owning_fact, is_settled, leaves_all, may_owe, owned, run_on_one, unowned}
 use Rattle.covering_laws.proofs.HeavyFields.{claims_owned, known_on, owning_in_no_field}
 use Rattle.covering_laws.proofs.InFields.{held_in_field, held_kept}
 use Rattle.value_laws.specs.Renewing.{HasOwningField, fact_as, is_of_heavy_class, is_reread, lends_this, reopens}
@@ -40,11 +40,11 @@ use Rattle.value_laws.specs.Ranges.{IsInRange, IsNumber}
 use Rattle.covering_laws.specs.Making.{HoldNone}
 use Rattle.covering_laws.specs.TextUpdates.{HoldsOrTakesText, IsLight}
 use Rattle.covering_laws.proofs.TextStores.{light_root, no_root}
-use Rattle.covering_laws.proofs.Owners.{AllKeepGifts, AllKeepOwners, HoldersWere, KeepsFinished, KeepsGifts, KeepsOwners, ThisWas, WaysGo, apart_before, is_field_place, keeps_finished, old_kept}
+use Rattle.covering_laws.proofs.Owners.{AllKeepGifts, AllKeepOwners, HoldersWere, KeepsGifts, KeepsOwners, ThisWas, WaysGo, apart_before, old_kept}
 use Rattle.value_laws.proofs.Chains.{object_there}
 use Rattle.value_laws.proofs.FieldPlaces.{passes}
-use Rattle.java_control.specs.declared.fact.Mode.{Mode}
-use Rattle.java_control.specs.declared.fact.Mode.TheVariants as modes
+use Rattle.control_actions.specs.declared.fact.Mode.{Mode}
+use Rattle.control_actions.specs.declared.fact.Mode.TheVariants as modes
 
 -- a finished object goes on, and what the library owns it goes on owning
 abbrev pub Continues : Object → Object → Type 0
@@ -90,42 +90,12 @@ bore_before p h k holders o x y before goes (inr (inr may)) = go x.finished refl
 abbrev pub Carries : HeapContents → HeapContents → Type 0
 Carries h k = (o : ℕ) (y : Object) → object_at k o ≡ Some y → o < next_number h → IsCarried h o y
 
--- so what was finished is so
-pub carries_finish : (h k : HeapContents) → next_number h ≤ next_number k → Carries h k → KeepsFinished h k
-carries_finish h k count carries = keeps_finished h k goes
-  where
-    goes : (n : ℕ) (x : Object) → object_at h n ≡ Some x → x.finished ≡ true → (y : Object) × (object_at k n ≡ Some y) × (y.finished ≡ true)
-    goes n x at done =
-        let range = numbers_are_in_range h n x at in
-        let some = range.0 in
-        let below = range.1 in
-        let y = object_there k n x some (omega (arith, below, count)) in
-        let c = carries n y.0 y.1 below in
-        let same : c.0 ≡ x = (let both : Some c.0 ≡ Some x = sym c.1 ∙ at in (let one : c.0 ≡ x = cc in one)) in
-        let was = ap (λ (z : Object). z.finished) same ∙ done in
-        (y.0, y.1, (c.3 was).0.finished ∙ was)
-
 -- an object that was not finished is not, but for these
 abbrev pub KeepsUnfinished : HeapContents → HeapContents → (ℕ → Type 0) → Type 0
 KeepsUnfinished h k apart = (o : ℕ) (x y : Object) → (apart o → ⊥) → object_at h o ≡ Some x → object_at k o ≡ Some y → x.finished ≡ false → y.finished ≡ false
 
 abbrev pub no_other : ℕ → Type 0
 no_other o = ⊥
-
--- a fact that says that a field holds the object does not say that the frame owns it
-pub not_own : (away : Bool) (m : Mode) → is_held m ≡ true → (away && is_own m) ≡ false
-not_own away m held = none away (is_own m) (apart m held)
-  where
-    apart : (n : Mode) → is_held n ≡ true → is_own n ≡ false
-    apart modes.Own is = absurd (true≢false (sym is))
-    apart modes.None is = refl
-    apart modes.Held is = refl
-    apart modes.Lent is = refl
-    apart modes.Alias is = refl
-
-    none : (a b : Bool) → b ≡ false → (a && b) ≡ false
-    none true b is = is
-    none false b is = refl
 
 -- nor does one that says that the frame owns it say that a field does
 pub own_not_held : (m : Mode) (b : Bool) → is_own m ≡ true → (is_held m && b) ≡ false

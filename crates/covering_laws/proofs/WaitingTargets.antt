@@ -1,4 +1,5 @@
 -- A frame waits for a call that creates the obligation of an object anew, or stands at one: which facts have the object, and that the frame tracks it if it owns it.
+use Rattle.covering_laws.proofs.AliasedResets.{aliased_resets_nothing}
 use Rattle.covering_laws.proofs.OwnerSteps.{own_frame}
 use Rattle.covering_laws.proofs.Owners.{lent_not_from}
 use Rattle.covering_laws.proofs.RenewedOperands.{HoldsLent, IsHeldOrLent, claims_or_lends, lent_hand}
@@ -14,13 +15,13 @@ use Rattle.ledger_obligations.specs.Bodies.{reset_in}
 use Rattle.ledger_obligations.specs.MustCallSets.{fits, is_heavy_class, must_of}
 use Rattle.java_control.specs.Control.{Step}
 use Rattle.java_control.specs.PlaceNumbers.{IsSmall}
-use Rattle.java_control.specs.declared.action.Action.{Action}
-use Rattle.java_control.specs.declared.fact.Mode.{Mode}
-use Rattle.java_control.specs.declared.fact.Mode.TheVariants as modes
-use Rattle.java_control.specs.declared.fact.OriginKind.{OriginKind}
-use Rattle.java_control.specs.declared.fact.OriginKind.TheVariants as kinds
-use Rattle.java_control.specs.declared.place.Place.{Place}
-use Rattle.java_control.specs.declared.place.Place.TheVariants as places
+use Rattle.control_actions.specs.declared.action.Action.{Action}
+use Rattle.control_actions.specs.declared.fact.Mode.{Mode}
+use Rattle.control_actions.specs.declared.fact.Mode.TheVariants as modes
+use Rattle.control_actions.specs.declared.fact.OriginKind.{OriginKind}
+use Rattle.control_actions.specs.declared.fact.OriginKind.TheVariants as kinds
+use Rattle.control_actions.specs.declared.place.Place.{Place}
+use Rattle.control_actions.specs.declared.place.Place.TheVariants as places
 use Rattle.ownership_rules.specs.Callees.{callee}
 use Rattle.ownership_rules.specs.Facts.{PlaceSet, has, has_temp, is_held, is_nowhere, is_origin_at, is_own}
 use Rattle.ownership_rules.specs.MovesAtCalls.{moved_at_call}
@@ -42,8 +43,7 @@ use Rattle.value_laws.specs.Paths.{Reach, move_of, relation_of}
 use Rattle.value_laws.specs.PlaceFacts.{Covers, IsCovered, IsKeyed, IsOwned, claims, is_given, is_idle, is_lent, is_lent_place, is_owning_fact, OwesOrHolds, owned, unowned}
 use Rattle.value_laws.specs.PlacePlaces.{HasPlacesAlone, is_local}
 use Rattle.value_laws.specs.Places.{place_value}
-use Rattle.value_laws.specs.PlainForms.{HasPlainForms}
-use Rattle.value_laws.specs.Renewing.{IsLentFrom, IsWhole, fact_as, is_renewed, is_reread, lends_this, answers_for_fields, renews}
+use Rattle.value_laws.specs.Renewing.{IsWhole, fact_as, is_renewed, is_reread, lends_this, answers_for_fields, renews}
 use Rattle.value_laws.specs.Steps.{RootsStay}
 use Rattle.value_laws.proofs.Carried.{local_value}
 use Rattle.value_laws.proofs.CallWays.{one_action}
@@ -153,7 +153,7 @@ module _ (p : Program) (ac : Accept p) (h : HeapContents) (fr : Frame) (old : �
 
 -- ---- the fact that has the target
 
-module _ (p : Program) (ac : Accept p) (forms : HasPlainForms p) (h : HeapContents) (fr : Frame) (old : ℕ → Bool) (frs : List Frame) (st : Stands p fr)
+module _ (p : Program) (ac : Accept p) (h : HeapContents) (fr : Frame) (old : ℕ → Bool) (frs : List Frame) (st : Stands p fr)
     (i : ℕ) (s : Step) (here : slice_get (frame_steps p fr) i ≡ Some s) (row : IsCallRow s.action) where
   module _ (away anew : Bool) (o : ℕ) (x : Object) (c : Covers p h away anew old frs fr o x) (target : is_target p s.action c.fact.places ≡ true) where
     pub target_reached : Reach p st.number (relation_of p st.number) c.origin fr.control c.fact
@@ -170,7 +170,7 @@ module _ (p : Program) (ac : Accept p) (forms : HasPlainForms p) (h : HeapConten
     target_mode =
         let run = running_method p ac fr st in
         claims_or_lends p fr st c.origin c.fact
-        (answered_targets p ac st.number st.body run.0 st.at (ap (method_at p) st.method ∙ run.1) (λ aliased k n t comes there. forms.aliased st.number n t comes there aliased)
+        (answered_targets p ac st.number st.body run.0 st.at (ap (method_at p) st.method ∙ run.1) (λ aliased k n t comes there. aliased_resets_nothing p ac st.number n t comes there aliased)
         c.origin fr.control c.fact target_reached s.action answer.0 answer.2)
 
     -- and it does not move
@@ -214,7 +214,7 @@ pub record OwnsTarget (p : Program) (h : HeapContents) (old : ℕ → Bool) (frs
   pub target : (i : ℕ) (s : Step) → slice_get (frame_steps p fr) i ≡ Some s → is_target p s.action covers.fact.places ≡ true
   pub stays : (i : ℕ) (s : Step) → slice_get (frame_steps p fr) i ≡ Some s → moved_at_call p covers.origin s.action s.edge covers.fact ≡ moves.Moves → ⊥
 
-module _ (p : Program) (ac : Accept p) (forms : HasPlainForms p) (h : HeapContents) (fr : Frame) (old : ℕ → Bool) (frs : List Frame) (st : Stands p fr)
+module _ (p : Program) (ac : Accept p) (h : HeapContents) (fr : Frame) (old : ℕ → Bool) (frs : List Frame) (st : Stands p fr)
     (i : ℕ) (s : Step) (here : slice_get (frame_steps p fr) i ≡ Some s) (row : IsCallRow s.action) (covered : IsCovered p h (is_given p h fr) (is_reread p h fr) old frs fr) (holds : HoldsLent p h old frs fr st)
     (have : HaveEnds h) (targets : KeepsTargets p fr) (making : MakesThis p h fr) (o : ℕ) (x : Object) (at : object_at h o ≡ Some x) (heavy : is_heavy_class p x.class ≡ true) (owes : OwesOrHolds p h o x) (whole : IsWhole p x) (renewed : is_renewed p h fr o ≡ true) where
   abbrev away : Bool
@@ -224,7 +224,7 @@ module _ (p : Program) (ac : Accept p) (forms : HasPlainForms p) (h : HeapConten
   anew = is_reread p h fr o x.owner
 
   pub temp : (t : ℕ) × IsSmall (places.Temp t) × (root_of h (place_value p h fr.method fr.locals (places.Temp t)) ≡ Some o) × ((held : PlaceSet) → has held (places.Temp t) ≡ true → is_target p s.action held ≡ true)
-  temp = target_temp p ac forms h fr old frs st i s here row o (renewed_at_step p h fr st i s o here row renewed)
+  temp = target_temp p ac h fr old frs st i s here row o (renewed_at_step p h fr st i s o here row renewed)
 
   -- it is in a fact that says so
   pub owns_target : (c : Covers p h away anew old frs fr o x) → has c.fact.places (places.Temp temp.0) ≡ true → IsOwned p h away anew old frs fr o x c → is_own c.fact.mode ≡ true → OwnsTarget p h old frs fr o x
@@ -236,7 +236,7 @@ module _ (p : Program) (ac : Accept p) (forms : HasPlainForms p) (h : HeapConten
     own = own;
     kept = none_away away refl;
     target = λ n t there. ap (λ (a : Action). is_target p a c.fact.places) (one n t there) ∙ temp.3 c.fact.places in';
-    stays = λ n t there. target_stays p ac forms h fr old frs st n t there (subst IsCallRow (sym (one n t there)) row) away anew o x c (ap (λ (a : Action). is_target p a c.fact.places) (one n t there) ∙ temp.3 c.fact.places in');
+    stays = λ n t there. target_stays p ac h fr old frs st n t there (subst IsCallRow (sym (one n t there)) row) away anew o x c (ap (λ (a : Action). is_target p a c.fact.places) (one n t there) ∙ temp.3 c.fact.places in');
   }
     where
       one : (n : ℕ) (t : Step) → slice_get (frame_steps p fr) n ≡ Some t → t.action ≡ s.action
@@ -244,7 +244,7 @@ module _ (p : Program) (ac : Accept p) (forms : HasPlainForms p) (h : HeapConten
 
       none_away : (b : Bool) → away ≡ b → away ≡ false
       none_away false kept = kept
-      none_away true gives = absurd (target_stays p ac forms h fr old frs st i s here row away anew o x c (temp.3 c.fact.places in')
+      none_away true gives = absurd (target_stays p ac h fr old frs st i s here row away anew o x c (temp.3 c.fact.places in')
           (away_moves p ac h fr st old frs i s here row away anew o x c key heavy (given_at_step p h fr st i s o x.class here row gives)))
 
   -- the object is in a fact that says that the frame owns it, or it is lent, or a field of what the frame's constructor makes owns it, or one of `this`, which is lent
@@ -256,7 +256,7 @@ module _ (p : Program) (ac : Accept p) (forms : HasPlainForms p) (h : HeapConten
 
       lent : (c : Covers p h away anew old frs fr o x) → has c.fact.places (places.Temp temp.0) ≡ true → c.fact.mode ≡ modes.Lent → IsHeldOrLent p h frs fr o x.owner
       lent c in' mode =
-          let is = answer p ac forms h fr old frs st i s here row away anew o x c (temp.3 c.fact.places in') in
+          let is = answer p ac h fr old frs st i s here row away anew o x c (temp.3 c.fact.places in') in
           elim (lent_hand p ac h have fr st targets making old frs i s here away anew o x at c mode position.0 position.2
           (subst (λ (n : ℕ). MayBeAnew p st.number c.origin s.action n c.fact) (let both : Some is.0 ≡ Some position.0 = sym is.1 ∙ position.1 in (let one : is.0 ≡ position.0 = cc in one)) is.2) whole) [
             | inl lends ↦ inl lends
@@ -268,7 +268,7 @@ module _ (p : Program) (ac : Accept p) (forms : HasPlainForms p) (h : HeapConten
         | inl own ↦ inl (owns_target c in' key own)
         | inr held ↦ inr (holds o x at heavy owes whole renewed away anew c held.0 held.1 (claims_owned p (method_at p fr.method) c.origin c.fact key.owning).0)
       ]
-      by (unowned u) = elim (target_mode p ac forms h fr old frs st i s here row away anew o x u.covers (temp.3 u.covers.fact.places u.here)) [
+      by (unowned u) = elim (target_mode p ac h fr old frs st i s here row away anew o x u.covers (temp.3 u.covers.fact.places u.here)) [
         | inl claimed ↦ absurd (true≢false (sym claimed ∙ u.unowned))
         | inr lends ↦ inr (lent u.covers u.here lends)
       ]

@@ -1,5 +1,5 @@
 -- The `this` of a method that creates its obligation anew, where an owning field of it, whose type has an obligation, holds an object whose class has one: it is there, linked to none, and lent to the frame.
-use Rattle.std.proofs.Common.{◌∷◌, ◌≡◌, ◌⊎◌, inl, inr, ℕ, ◌<◌, Bool, true, false, not, ◌&&◌, true≢false, Some, None, List, refl, sym, ap, ◌∙◌}
+use Rattle.std.proofs.Common.{◌∷◌, ◌≡◌, inl, inr, ℕ, Bool, true, false, true≢false, Some, None, List, refl, sym, ap, ◌∙◌}
 use Rattle.program_model.specs.declared.kinds.ClassId.{ClassId}
 use Rattle.program_model.specs.declared.kinds.FieldId.{FieldId}
 use Rattle.program_model.specs.declared.kinds.VType.{VType}

@@ -4,7 +4,7 @@ use Rattle.program_model.specs.declared.program.Program.{Program}
 use Rattle.ledger_obligations.specs.MustCallSets.{is_heavy_class}
 use Rattle.java_control.specs.Control.{Step}
 use Rattle.java_control.specs.PlaceNumbers.{IsSmall}
-use Rattle.java_control.specs.declared.place.Place.{Place}
+use Rattle.control_actions.specs.declared.place.Place.{Place}
 use Rattle.ledger_state.specs.Contents.{HeapContents}
 use Rattle.ledger_state.specs.Heaps.{object_at, root_of}
 use Rattle.ledger_state.specs.declared.object.Object.{Object}

@@ -10,9 +10,9 @@ use Rattle.program_model.specs.Overrides.{is_library}
 use Rattle.ledger_obligations.specs.MustCallSets.{is_empty, must_of_optional}
 use Rattle.java_control.specs.Calls.{called_method}
 use Rattle.java_control.specs.Remaining.{Todo}
-use Rattle.java_control.specs.declared.action.Action.{Action}
-use Rattle.java_control.specs.declared.action.Action.TheVariants as actions
-use Rattle.java_control.specs.declared.action.TargetForm.TheVariants as forms
+use Rattle.control_actions.specs.declared.action.Action.{Action}
+use Rattle.control_actions.specs.declared.action.Action.TheVariants as actions
+use Rattle.control_actions.specs.declared.action.TargetForm.TheVariants as forms
 use Rattle.value_laws.specs.Paths.{Comes, Move, relation_of}
 use Rattle.value_laws.specs.PlainForms.{MayRun, all_owe_nothing}
 

@@ -10,7 +10,7 @@ use Rattle.program_model.specs.SuperTests.{is_under}
 use Rattle.ledger_obligations.specs.Bodies.{is_extended_in}
 use Rattle.java_control.specs.Calls.{called_method}
 use Rattle.java_control.specs.Control.{Step}
-use Rattle.java_control.specs.declared.action.Action.TheVariants as actions
+use Rattle.control_actions.specs.declared.action.Action.TheVariants as actions
 use Rattle.ledger_state.specs.Contents.{HeapContents}
 use Rattle.ledger_state.specs.Heaps.{object_at, root_of}
 use Rattle.ledger_state.specs.Locals.{temp_value}

@@ -11,8 +11,8 @@ ghost use Rattle.ledger_obligations.specs.Bodies.{alias_position, constructs, is
 ghost use Rattle.ledger_obligations.specs.MustCallSets.{is_heavy_class, must_of_optional, must_of_type};
 ghost use Rattle.ownership_rules.specs.Signatures.{type_at};
 ghost use Rattle.java_control.specs.Control.{Step};
-ghost use Rattle.java_control.specs.declared.action.Action.TheVariants as actions;
-ghost use Rattle.java_control.specs.declared.action.Completion.{Completion};
+ghost use Rattle.control_actions.specs.declared.action.Action.TheVariants as actions;
+ghost use Rattle.control_actions.specs.declared.action.Completion.{Completion};
 ghost use Rattle.value_laws.specs.Ends.{is_throw};
 ghost use Rattle.value_laws.specs.Accept.{Accept};
 ghost use Rattle.ledger_state.specs.Contents.{HeapContents};

@@ -6,7 +6,7 @@ ghost use Rattle.program_model.specs.declared.program.Program.{Program};
 ghost use Rattle.program_model.specs.Lookups.{method_at};
 ghost use Rattle.ledger_obligations.specs.Bodies.{is_alias_constructor};
 ghost use Rattle.java_control.specs.Control.{Step};
-ghost use Rattle.java_control.specs.declared.action.Action.TheVariants as actions;
+ghost use Rattle.control_actions.specs.declared.action.Action.TheVariants as actions;
 ghost use Rattle.value_laws.specs.Accept.{Accept};
 ghost use Rattle.ledger_state.specs.Contents.{HeapContents};
 ghost use Rattle.ledger_state.specs.Heaps.{root_of};

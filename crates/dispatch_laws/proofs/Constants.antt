@@ -16,7 +16,6 @@ use Rattle.annotation_kinds.specs.Annotations.{is_of, kinds, name_of}
 use Rattle.annotation_rules.specs.AnnotationCases.{declaration_of, is_class_result}
 use Rattle.annotation_rules.specs.AnnotationCases as rules
 use Rattle.annotation_rules.specs.Declarations.{is_wrong}
-use Rattle.annotation_rules.specs.declared.declaration.Declaration.{Declaration}
 use Rattle.annotation_rules.specs.declared.declaration.Declaration.TheVariants as declarations
 use Rattle.annotation_rules.specs.Effective.{reset_in}
 use Rattle.agreement.specs.Accept.{Accept}

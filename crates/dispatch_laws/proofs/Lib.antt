@@ -46,7 +46,6 @@ pub use Rattle.agreement.proofs.Returned
 pub use Rattle.agreement.proofs.RootLaws
 pub use Rattle.agreement.proofs.SetLaws
 pub use Rattle.agreement.proofs.StartReached
-pub use Rattle.agreement.proofs.ResetsUp
 pub use Rattle.agreement.proofs.StoredObjects
 pub use Rattle.agreement.proofs.StoreResets
 pub use Rattle.agreement.proofs.Temps

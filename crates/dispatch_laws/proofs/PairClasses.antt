@@ -12,7 +12,7 @@ use Rattle.program_model.specs.declared.program.Program.{Program}
 use Rattle.program_model.specs.Hierarchy.{IsUnder, itself}
 use Rattle.program_model.specs.Lookups.{class_at, method_at}
 use Rattle.program_model.specs.Overrides.{Overriding, declared_overrides, is_abstract, is_alike, is_joined, joined_override, joined_overrides, method_run, methods_above, methods_of, override_at, overrides_in, overrides_of, pos_in, run_method}
-use Rattle.program_model.specs.SuperTests.{classes_above, has_class, is_class, is_under}
+use Rattle.program_model.specs.SuperTests.{classes_above, has_class, is_class}
 use Rattle.program_model.specs.Validity.{IsTypedProgram}
 use Rattle.program_model.proofs.HierarchyLaws.{is_under_law}
 use Rattle.agreement.proofs.Elements.{contains-cases, contains-none, contains-one, filter-among, gathered-among}

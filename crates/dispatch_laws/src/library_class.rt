@@ -11,7 +11,7 @@ ghost use Rattle.program_model.specs.Lookups.{method_at};
 ghost use Rattle.agreement.specs.Accept.{Accept};
 ghost use Rattle.agreement.specs.LibraryClasses.{GivesLibraryClasses, ThrowsMadeClasses};
 ghost use Rattle.agreement.specs.PlainForms.{may_be_made};
-ghost use Rattle.java_control.specs.declared.action.Action.{Action};
+ghost use Rattle.control_actions.specs.declared.action.Action.{Action};
 ghost use Rattle.stub_conduct.specs.declared.choice.Choice.{Choice};
 ghost use Rattle.ledger_state.specs.Contents.{HeapContents};
 ghost use Rattle.ledger_state.specs.declared.array.ArrayObject.{ArrayObject};

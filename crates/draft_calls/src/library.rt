@@ -15,11 +15,11 @@ ghost use Rattle.object_index.specs.ObjectIndexes.{Indexed};
 ghost use Rattle.program_model.specs.Lookups.{method_at};
 ghost use Rattle.draft_steps.specs.Settled.{Settled};
 
+use control_actions::Action;
 use draft_lines::add_birth_lines;
 use draft_stages::{changes_after, draft_arguments, draft_end, draft_reset, held_roots};
 use draft_steps::{DraftStep, draft_notes, step_of};
 use heap_drafts::{SavedObject, make_object, restore, save};
-use java_control::Action;
 use ledger_calls::{add_library_notes, library_birth, made_by_new, reset_target};
 use ledger_obligations::{ActiveFrame, Note};
 use ledger_state::{Entry, Heap, Locals, Owner};

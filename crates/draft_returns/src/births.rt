@@ -10,10 +10,10 @@ ghost use Rattle.ledger_state.specs.Values.{number_of};
 ghost use Rattle.ledger_steps.specs.Ends.{object_finished, program_birth};
 ghost use Rattle.program_model.specs.Lookups.{method_at};
 
+use control_actions::Action;
 use draft_lines::add_birth_lines;
 use draft_stages::changes_after;
 use heap_drafts::{SavedObject, rising, save};
-use java_control::Action;
 use ledger_calls::{alias_target, is_alias};
 use ledger_obligations::{alias_born, finished};
 use ledger_state::{Entry, Heap, Locals, Object, Owner};

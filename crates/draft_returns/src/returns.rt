@@ -16,10 +16,10 @@ ghost use Rattle.draft_steps.specs.Settled.{Settled};
 
 use crate::births::draft_birth;
 use crate::frames::draft_frame_gone;
+use control_actions::Action;
 use draft_stages::{draft_end, draft_reset, held_roots};
 use draft_steps::{DraftStep, draft_notes, step_of};
 use heap_drafts::{SavedObject, restore};
-use java_control::Action;
 use ledger_calls::{add_receiver_note, reset_target};
 use ledger_obligations::{ActiveFrame, Note};
 use ledger_state::{Entry, Heap, Locals};

@@ -7,9 +7,9 @@ ghost use Rattle.draft_lines.specs.Entries.{owner_entries};
 ghost use Rattle.program_model.specs.Lookups.{method_at};
 
 use crate::rows::changes_after;
+use control_actions::Action;
 use draft_lines::add_owner_lines;
 use heap_drafts::{SavedObject, add_roots, rising, save};
-use java_control::Action;
 use ledger_calls::{argument_values, move_arguments};
 use ledger_state::{Entry, Heap, Locals, Owner};
 use program_model::{MethodId, Program};

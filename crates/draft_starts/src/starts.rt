@@ -9,10 +9,10 @@ ghost use Rattle.draft_steps.specs.CallSteps.{object_begun, object_of_new, start
 ghost use Rattle.program_model.specs.Lookups.{method_at};
 ghost use Rattle.draft_steps.specs.Settled.{Settled};
 
+use control_actions::Action;
 use draft_stages::{draft_arguments, draft_end};
 use draft_steps::{DraftStep, step_of};
 use heap_drafts::{SavedObject, make_object, restore};
-use java_control::Action;
 use ledger_obligations::ActiveFrame;
 use ledger_state::{Entry, Heap, Locals, Owner};
 use program_model::{MethodId, Program};

@@ -23,8 +23,8 @@ use Rattle.ledger_state.specs.Heaps.{changed_from, has_number, object_at, put_fi
 use Rattle.ledger_obligations.specs.declared.stores.OwningStore.{OwningStore}
 use Rattle.ledger_obligations.specs.Obligations.{displaced, given_up, held_at, holds, is_unmet, lose, lost_object, moved_where, owner_holds, released_where, stored_owning, with_owner}
 use Rattle.ledger_steps.specs.Entries.{by_number, leak_entries}
-use Rattle.java_control.specs.declared.action.Action.{Action}
-use Rattle.java_control.specs.Owned.{is_owning}
+use Rattle.control_actions.specs.declared.action.Action.{Action}
+use Rattle.control_actions.specs.Owned.{is_owning}
 use Rattle.ledger_steps.specs.declared.store.Store.{Store}
 use Rattle.ledger_steps.specs.Effects.{left}
 use Rattle.ledger_steps.specs.InnerSteps.{displaced_entries, displaced_lines, heap_stored, inner, is_bound, owning_lines, store_entries, store_lines, store_of, store_unless, stored_by, thrown_heap}

@@ -1,7 +1,7 @@
 //! What a store into an owning field does.
 
 ghost use Rattle.std.specs.Prelude.{◌≡◌, ◌&&◌};
-ghost use Rattle.java_control.specs.Owned.{is_owning};
+ghost use Rattle.control_actions.specs.Owned.{is_owning};
 ghost use Rattle.ledger_calls.specs.Calls.{alias_position, alias_target};
 ghost use Rattle.ledger_obligations.specs.Obligations.{displaces, is_field, moves_in, owner_of_root, resets_holder, type_of_field};
 ghost use Rattle.ledger_state.specs.Fields.{field_of};

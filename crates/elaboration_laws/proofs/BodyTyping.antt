@@ -8,8 +8,8 @@ use Rattle.program_model.specs.Typing.{IsDeclarable, when_true}
 use Rattle.program_model.specs.Validity.{HasParameters}
 use Rattle.java_typed_trees.specs.declared.scope.Local.{Local}
 use Rattle.java_typed_trees.specs.StatementTrees.{statements}
-use Rattle.java_expression_rules.specs.Surroundings.{Surroundings}
-use Rattle.java_expression_rules.proofs.Whole.{IsTyped}
+use Rattle.java_call_rules.specs.Surroundings.{Surroundings}
+use Rattle.java_variable_rules.proofs.VariableLaws.{IsTyped}
 use Rattle.java_typing_laws.proofs.Goodness.{nil_left, nil_right}
 use Rattle.java_typing_laws.specs.StatementCases.{statements_cases}
 use Rattle.java_typing_laws.specs.StatementTrees.{statement_trees}

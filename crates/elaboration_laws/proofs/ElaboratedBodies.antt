@@ -25,7 +25,7 @@ use Rattle.program_model.specs.Validity.{IsValid}
 use Rattle.java_elaboration.specs.ProgramBodies.{HasBodies, methods_from}
 use Rattle.class_table.specs.ClassOrderDeclarations.{Declaration}
 use Rattle.class_table.specs.ClassDeclarationsMembers.{fields_of}
-use Rattle.java_expression_rules.specs.Members.{fields_in}
+use Rattle.java_call_rules.specs.Members.{fields_in}
 use Rattle.class_table.specs.Passes.{IsBuilt, classes_of}
 use Rattle.class_table.proofs.Owners.{tied_at}
 use Rattle.java_typing_laws.specs.Bodies.{IsLaid}

@@ -25,10 +25,10 @@ use Rattle.java_typed_trees.specs.Settling.{own_cases, tree_in}
 use Rattle.java_typed_trees.specs.StatementTrees.{StatementForm, Statement, StmtTree, StmtTrees, no_statement, and_statement, statements}
 use Rattle.java_typed_trees.specs.StatementTrees as forms
 use Rattle.java_overloads.specs.Conversions.{is_assignable}
-use Rattle.java_expression_rules.specs.JavaMemberRulesAssignments.{assignment_of}
-use Rattle.java_expression_rules.specs.JavaMemberRulesNames.{implied_this}
-use Rattle.java_expression_rules.specs.Surroundings.{Surroundings}
-use Rattle.java_expression_rules.proofs.Whole.{AreTyped, IsTyped}
+use Rattle.java_variable_rules.specs.JavaMemberRulesAssignments.{assignment_of}
+use Rattle.java_variable_rules.specs.JavaMemberRulesNames.{implied_this}
+use Rattle.java_call_rules.specs.Surroundings.{Surroundings}
+use Rattle.java_variable_rules.proofs.VariableLaws.{AreTyped, IsTyped}
 use Rattle.java_typing_laws.specs.Cases.{value_cases}
 use Rattle.java_typing_laws.specs.Typings.{tree, value_facts}
 use Rattle.java_typing_laws.proofs.Goodness.{cons_is_nil, nil_left, nil_right}

@@ -20,7 +20,7 @@ use Rattle.program_model.specs.Validity.{IsFieldOf}
 use Rattle.java_syntax.specs.ExpressionTrees as syntax
 use Rattle.java_overloads.specs.Conversions.{is_assignable}
 use Rattle.class_table.specs.ClassDeclarationsMembers.{WrittenField, fields_of}
-use Rattle.java_expression_rules.specs.Members.{fields_in}
+use Rattle.java_call_rules.specs.Members.{fields_in}
 use Rattle.java_typed_trees.specs.declared.facts.Answer.{Answer}
 use Rattle.java_typed_trees.specs.declared.facts.Answer.TheVariants as answers
 use Rattle.java_typed_trees.specs.declared.facts.Facts.{Facts}
@@ -30,9 +30,9 @@ use Rattle.java_typed_trees.specs.Answers.{mismatch, of_two, value_at}
 use Rattle.java_typed_trees.specs.ExpressionTrees.{ExprTrees, expressions}
 use Rattle.java_typed_trees.specs.Settling.{own_cases, tree_in}
 use Rattle.java_typed_trees.specs.StatementTrees.{statements}
-use Rattle.java_expression_rules.specs.JavaMemberRulesAssignments.{assignment_of}
-use Rattle.java_expression_rules.specs.JavaMemberRulesNames.{implied_this}
-use Rattle.java_expression_rules.specs.Surroundings.{Surroundings}
+use Rattle.java_variable_rules.specs.JavaMemberRulesAssignments.{assignment_of}
+use Rattle.java_variable_rules.specs.JavaMemberRulesNames.{implied_this}
+use Rattle.java_call_rules.specs.Surroundings.{Surroundings}
 use Rattle.java_typing_laws.specs.Cases.{value_cases}
 use Rattle.java_typing_laws.specs.Typings.{tree, value_facts}
 use Rattle.java_typing_laws.proofs.Goodness.{cons_is_nil, nil_left, nil_right}

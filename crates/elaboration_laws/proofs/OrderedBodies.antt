@@ -6,7 +6,7 @@ use Rattle.program_model.specs.declared.kinds.FieldId.{FieldId}
 use Rattle.program_model.specs.declared.program.ParamSig.{ParamSig}
 use Rattle.java_syntax.specs.declared.declaration_trees.Param.{Param}
 use Rattle.java_typed_trees.specs.StatementTrees.{StmtTree, StmtTrees, no_statement, and_statement, statements}
-use Rattle.java_expression_rules.proofs.Whole.{AreTyped, IsTyped}
+use Rattle.java_variable_rules.proofs.VariableLaws.{AreTyped, IsTyped}
 use Rattle.java_typing_laws.proofs.Goodness.{nil_left, nil_right, nil_second}
 use Rattle.java_typing_laws.specs.StatementCases.{statements_cases}
 use Rattle.java_typing_laws.specs.StatementTrees.{statement_trees}

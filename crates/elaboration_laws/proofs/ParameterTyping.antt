@@ -11,7 +11,7 @@ use Rattle.program_model.specs.Validity.{HasParameters}
 use Rattle.java_syntax.specs.declared.declaration_trees.Param.{Param}
 use Rattle.java_syntax.specs.AnnotationTrees.{modifier_of}
 use Rattle.java_typed_trees.specs.declared.scope.Local.{Local}
-use Rattle.java_expression_rules.proofs.Whole.{AreTyped, IsTyped}
+use Rattle.java_variable_rules.proofs.VariableLaws.{AreTyped, IsTyped}
 use Rattle.java_statement_rules.specs.DeclaredVariables.{has_final}
 use Rattle.java_typing_laws.proofs.Joins.{get_behind}
 use Rattle.java_typing_laws.specs.BodyVariables.{parameter_variables}

@@ -5,7 +5,7 @@ use Rattle.program_model.specs.declared.kinds.ClassId.{ClassId}
 use Rattle.program_model.specs.declared.kinds.MethodId.{MethodId}
 use Rattle.program_model.specs.declared.kinds.VType.TheVariants as types
 use Rattle.program_model.specs.declared.program.Program.{Program}
-use Rattle.java_expression_rules.specs.Members.{constructors_of}
+use Rattle.java_call_rules.specs.Members.{constructors_of}
 use Rattle.java_overloads.specs.declared.choices.Choice.{Choice}
 use Rattle.java_overloads.specs.declared.choices.Choice.TheVariants as choices
 use Rattle.java_typed_trees.specs.declared.facts.Answer.{Answer}
@@ -16,12 +16,13 @@ use Rattle.java_typed_trees.specs.ExpressionTrees.{ExprTrees}
 use Rattle.java_typed_trees.specs.Settling.{own_cases}
 use Rattle.java_typed_trees.specs.StatementTrees.{Statement, StmtTree, no_statement}
 use Rattle.java_typed_trees.specs.StatementTrees as forms
-use Rattle.java_expression_rules.specs.declared.overloads.MethodResolution.TheVariants as resolutions
-use Rattle.java_expression_rules.specs.Arguments.{argument_types, choice_for}
-use Rattle.java_expression_rules.specs.Calls.{by_resolution, method_in, resolution_in, super_class, trees_for}
-use Rattle.java_expression_rules.specs.Surroundings.{Surroundings}
-use Rattle.java_expression_rules.specs.TypedParts.{Typing, have_types}
-use Rattle.java_expression_rules.proofs.Whole.{AreTyped}
+use Rattle.java_call_rules.specs.declared.overloads.MethodResolution.TheVariants as resolutions
+use Rattle.java_call_rules.specs.Arguments.{argument_types}
+use Rattle.java_call_rules.specs.Calls.{choice_for, by_resolution, resolution_in, super_class}
+use Rattle.java_call_rules.specs.CallParts.{method_in, trees_for}
+use Rattle.java_call_rules.specs.Surroundings.{Surroundings}
+use Rattle.java_call_rules.specs.TypedParts.{Typing, have_types}
+use Rattle.java_variable_rules.proofs.VariableLaws.{AreTyped}
 use Rattle.java_typing_laws.specs.Cases.{argument_cases}
 use Rattle.java_typing_laws.specs.Typings.{typings}
 use Rattle.java_typing_laws.proofs.Goodness.{cons_is_nil, nil_left, nil_right, values_have_types}

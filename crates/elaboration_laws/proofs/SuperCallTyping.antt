@@ -13,15 +13,16 @@ use Rattle.program_model.specs.declared.tree.Var.{Var}
 use Rattle.program_model.specs.Lookups.{class_at, method_at}
 use Rattle.program_model.specs.Overrides.{super_in}
 use Rattle.java_syntax.specs.ExpressionTrees as syntax
-use Rattle.java_expression_rules.specs.Members.{constructors_of}
+use Rattle.java_call_rules.specs.Members.{constructors_of}
 use Rattle.java_typed_trees.specs.declared.facts.Answer.{Answer}
 use Rattle.java_typed_trees.specs.declared.facts.Answer.TheVariants as answers
 use Rattle.java_typed_trees.specs.declared.shapes.Shape.TheVariants as shapes
 use Rattle.java_typed_trees.specs.Answers.{value_at}
 use Rattle.java_typed_trees.specs.StatementTrees.{statements}
-use Rattle.java_expression_rules.specs.Arguments.{argument_types, takes_values}
-use Rattle.java_expression_rules.specs.Calls.{method_in, super_class, trees_for}
-use Rattle.java_expression_rules.specs.Surroundings.{Surroundings}
+use Rattle.java_call_rules.specs.Arguments.{argument_types, takes_values}
+use Rattle.java_call_rules.specs.CallParts.{method_in, trees_for}
+use Rattle.java_call_rules.specs.Calls.{super_class}
+use Rattle.java_call_rules.specs.Surroundings.{Surroundings}
 use Rattle.java_typing_laws.specs.Typings.{typings}
 use Rattle.java_typing_laws.specs.TypingContexts.{TypingContext}
 use Rattle.java_typing_laws.specs.TypedTrees.{AreArguments, AreTypedTrees, IsConstruction, parts_in}

@@ -15,7 +15,7 @@ use Rattle.java_statement_rules.specs.Contexts.{StatementContext, in_a_loop}
 use Rattle.java_typing_laws.specs.Clauses.{clause_cases}
 use Rattle.java_typing_laws.specs.Heads.{expressions_cases, optional_cases, required_cases, start_cases, start_count, start_form}
 use Rattle.java_typing_laws.specs.Resources.{behind_resource, closing_of, resource_cases, resource_shape, resource_shapes, resource_shapes_by, resources_cases}
-use Rattle.java_expression_rules.specs.Calls.{method_in}
+use Rattle.java_call_rules.specs.CallParts.{method_in}
 use Rattle.java_typing_laws.specs.StatementCases.{block_cases, catches_cases, else_cases, finally_cases, statement_cases, statements_cases}
 use Rattle.java_typing_laws.specs.StatementCompletions.{finally_completion}
 use Rattle.java_typing_laws.specs.StatementContexts.{after, behind_start, catch_context, catches_context, else_context, finally_context, for_body_context, next_catch_context, resources_context, try_block_context}

@@ -23,7 +23,7 @@ use Rattle.class_names.specs.ClassNames.{class_at, name_of_class, names_of}
 use Rattle.class_names.specs.Meanings.{CompilationUnit, has, meaning_of}
 use Rattle.class_names.specs.WrittenTypes.{class_type, is_string, primitive_of, primitive_type, string_type, type_of_meaning, type_of_name, written_type}
 use Rattle.class_table.proofs.ClassHeadersKnownLemmas.{IsWithin, meaning_within}
-use Rattle.java_expression_rules.specs.Names.{class_in}
+use Rattle.java_call_rules.specs.WrittenTypes.{class_in}
 use Rattle.java_typing_laws.proofs.LeastClasses.{valid_has_catch_types}
 use Rattle.java_typing_laws.proofs.Conversions.{none_is_some, same_in}
 use Rattle.java_typing_laws.specs.Scopes.{HasDeclarableTypes}

@@ -21,7 +21,7 @@ pub use Rattle.java_typing_laws.specs.StatementCompletions
 pub use Rattle.java_typing_laws.specs.StatementContexts
 pub use Rattle.java_typing_laws.specs.StatementTrees
 pub use Rattle.java_typing_laws.specs.SuperCalls
-pub use Rattle.java_expression_rules.specs.Surroundings
+pub use Rattle.java_call_rules.specs.Surroundings
 pub use Rattle.java_typing_laws.specs.TypedStatements
 pub use Rattle.java_typing_laws.specs.TypedTrees
 pub use Rattle.java_typing_laws.specs.TypingContexts

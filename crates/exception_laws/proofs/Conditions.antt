@@ -16,8 +16,8 @@ use Rattle.program_model.specs.declared.tree.TExpr.{TExpr}
 use Rattle.program_model.specs.Lookups.{expression_at}
 use Rattle.program_model.specs.Typing.{kind_in}
 use Rattle.rlc_base.specs.declared.place.Pos.{Pos}
-use Rattle.java_control.specs.declared.item.Condition.{Condition}
-use Rattle.java_control.specs.declared.item.Condition.TheVariants as conditions
+use Rattle.control_actions.specs.declared.item.Condition.{Condition}
+use Rattle.control_actions.specs.declared.item.Condition.TheVariants as conditions
 use Rattle.java_control.specs.Conditions.{binary_condition, condition_front, equal_condition, kind_condition, literal_condition, node_condition, not_equal_condition, tests_value, unary_condition}
 use Rattle.java_control.specs.NullTests.{compared_with_null}
 use Rattle.java_control.specs.Remaining.{Todos, Ev, Cond, NullFork, todos, one, nowhere}

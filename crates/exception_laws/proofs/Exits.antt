@@ -9,12 +9,12 @@ use Rattle.program_model.specs.declared.tree.Body.{Body}
 use Rattle.program_model.specs.declared.tree.CatchClause.{CatchClause}
 use Rattle.program_model.specs.Lookups.{expression_at, statement_at}
 use Rattle.rlc_base.specs.declared.place.Pos.{Pos}
-use Rattle.java_control.specs.declared.action.Action.{Action}
-use Rattle.java_control.specs.declared.action.Action.TheVariants as actions
-use Rattle.java_control.specs.declared.action.Completion.{Completion}
-use Rattle.java_control.specs.declared.action.Completion.TheVariants as completions
-use Rattle.java_control.specs.declared.action.Edge.TheVariants as edges
-use Rattle.java_control.specs.declared.item.Closing.{Closing}
+use Rattle.control_actions.specs.declared.action.Action.{Action}
+use Rattle.control_actions.specs.declared.action.Action.TheVariants as actions
+use Rattle.control_actions.specs.declared.action.Completion.{Completion}
+use Rattle.control_actions.specs.declared.action.Completion.TheVariants as completions
+use Rattle.control_actions.specs.declared.action.Edge.TheVariants as edges
+use Rattle.control_actions.specs.declared.item.Closing.{Closing}
 use Rattle.java_control.specs.Control.{ways}
 use Rattle.java_control.specs.Completions.{at_catch, at_depth, at_loop, at_supp, ends, out}
 use Rattle.java_control.specs.Exceptions.{action_ways, caught, clauses_in, enters, exceptions_of, may_take, takes_wholly, throws}

@@ -26,15 +26,15 @@ use Rattle.program_model.specs.declared.tree.TExpr.{TExpr}
 use Rattle.program_model.specs.Lookups.{expression_at}
 use Rattle.program_model.specs.Trees.{assignment_operands, call_target, operands}
 use Rattle.rlc_base.specs.declared.place.Pos.{Pos}
-use Rattle.java_control.specs.declared.action.Action.TheVariants as actions
-use Rattle.java_control.specs.declared.action.Operator.{Operator}
-use Rattle.java_control.specs.declared.action.Operator.TheVariants as operators
-use Rattle.java_control.specs.declared.action.Scope.TheVariants as scopes
-use Rattle.java_control.specs.declared.action.TargetForm.{TargetForm}
-use Rattle.java_control.specs.declared.place.Place.TheVariants as places
-use Rattle.java_control.specs.declared.action.TargetForm.TheVariants as forms
-use Rattle.java_control.specs.declared.item.Condition.{Condition}
-use Rattle.java_control.specs.declared.item.Condition.TheVariants as conditions
+use Rattle.control_actions.specs.declared.action.Action.TheVariants as actions
+use Rattle.control_actions.specs.declared.action.Operator.{Operator}
+use Rattle.control_actions.specs.declared.action.Operator.TheVariants as operators
+use Rattle.control_actions.specs.declared.action.Scope.TheVariants as scopes
+use Rattle.control_actions.specs.declared.action.TargetForm.{TargetForm}
+use Rattle.control_actions.specs.declared.place.Place.TheVariants as places
+use Rattle.control_actions.specs.declared.action.TargetForm.TheVariants as forms
+use Rattle.control_actions.specs.declared.item.Condition.{Condition}
+use Rattle.control_actions.specs.declared.item.Condition.TheVariants as conditions
 use Rattle.java_control.specs.Conditions.{binary_condition, condition_front, equal_condition, kind_condition, literal_condition, node_condition, not_equal_condition, tests_value, unary_condition}
 use Rattle.java_control.specs.Expressions.{assignment_front, call_with, comparison_front, binary_front, computes, evaluations, expression_front, field_read, field_store, stored, stored_at, stored_in, tested_front, type_or_null, unary_front}
 use Rattle.java_control.specs.NullTests.{compared_with_null, is_null}

@@ -12,9 +12,9 @@ use Rattle.program_model.specs.Lookups.{body_at}
 use Rattle.program_model.specs.SuperTests.{is_under}
 use Rattle.program_model.specs.Validity.{IsTypedProgram, IsValidBody}
 use Rattle.program_model.proofs.HierarchyLaws.{is_under_law}
-use Rattle.java_control.specs.declared.action.Action.{Action}
-use Rattle.java_control.specs.declared.action.Action.TheVariants as actions
-use Rattle.java_control.specs.declared.action.Completion.TheVariants as completions
+use Rattle.control_actions.specs.declared.action.Action.{Action}
+use Rattle.control_actions.specs.declared.action.Action.TheVariants as actions
+use Rattle.control_actions.specs.declared.action.Completion.TheVariants as completions
 use Rattle.java_control.specs.Control.{Step, control_place, next_of, start_in, start_of, step_at, steps_in, ways}
 use Rattle.java_control.specs.Remaining.{Todo, Way}
 use Rattle.java_control.specs.Statements.{body_front}

@@ -23,17 +23,17 @@ use Rattle.program_model.specs.declared.tree.TryStatement.{TryStatement}
 use Rattle.program_model.specs.Lookups.{optional, statement_at, type_at}
 use Rattle.program_model.specs.Trees.{expressions_in, initial_expressions, initializers, statements_in}
 use Rattle.rlc_base.specs.declared.place.Pos.{Pos}
-use Rattle.java_control.specs.declared.action.Action.TheVariants as actions
-use Rattle.java_control.specs.declared.action.Scope.TheVariants as scopes
-use Rattle.java_control.specs.declared.item.Condition.{Condition}
-use Rattle.java_control.specs.declared.item.Condition.TheVariants as conditions
-use Rattle.java_control.specs.declared.place.Place.TheVariants as places
+use Rattle.control_actions.specs.declared.action.Action.TheVariants as actions
+use Rattle.control_actions.specs.declared.action.Scope.TheVariants as scopes
+use Rattle.control_actions.specs.declared.item.Condition.{Condition}
+use Rattle.control_actions.specs.declared.item.Condition.TheVariants as conditions
+use Rattle.control_actions.specs.declared.place.Place.TheVariants as places
 use Rattle.java_control.specs.Expressions.{evaluations}
 use Rattle.java_control.specs.Statements.{class_of_type, clauses_front, closes, declaration_front, declarator_front, declarator_with, expression_statement, finally_front, head_front, initial_front, list_of_branch, opens, resources_front, return_front, statement_front, super_front, try_front, turn_front}
 use Rattle.java_control.specs.Exceptions.{clauses_in}
 use Rattle.java_control.specs.Remaining.{Todo, Todos, nil, Do, Ev, Act, Cond, LoopEnd, For, Leave, one, two, expression_place}
 use Rattle.accepted_programs.specs.Completions.{Completion, completion, finally_completion}
-use Rattle.accepted_programs.specs.Exceptions.{exceptions_before_finally, exceptions_in, expression_exceptions, is_caught, let_through, protected_exceptions, statement_exceptions, throws_clause, thrown_by_closing, thrown_by_statement, uncaught}
+use Rattle.accepted_programs.specs.Exceptions.{exceptions_in, expression_exceptions, is_caught, let_through, protected_exceptions, statement_exceptions, throws_clause, thrown_by_closing, thrown_by_statement, uncaught}
 use Rattle.accepted_programs.specs.Exceptions as thrown_classes
 use Rattle.exception_laws.proofs.ExpressionFronts.{AreQuiet, Quiet, evaluates_all, quiet_first, quiet_joined, values}
 use Rattle.exception_laws.proofs.Handlers.{IsSafe, condition_exceptions, fit, gets_out, in_front, thrown_in}

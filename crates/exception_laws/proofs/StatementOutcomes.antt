@@ -3,7 +3,6 @@ use Rattle.std.proofs.Common.{◌≡◌, ◌∙◌, ◌⊎◌, ◌++◌, ◌∷�
 use Rattle.std.proofs.lemmas.Bool.{or_left, or_right}
 use Rattle.std.specs.Prelude.{◌&&◌, ◌||◌, flat_map, not, reverse}
 use Rattle.std.specs.List.{list_all}
-use Rattle.program_model.specs.declared.kinds.ClassId.{ClassId}
 use Rattle.program_model.specs.declared.kinds.ExprId.{ExprId}
 use Rattle.program_model.specs.declared.kinds.StmtId.{StmtId}
 use Rattle.program_model.specs.declared.program.Program.{Program}
@@ -18,10 +17,10 @@ use Rattle.program_model.specs.declared.tree.TStmt.{TStmt}
 use Rattle.program_model.specs.Lookups.{statement_at, type_at}
 use Rattle.program_model.specs.Trees.{initial_expressions, initializers}
 use Rattle.rlc_base.specs.declared.place.Pos.{Pos}
-use Rattle.java_control.specs.declared.action.Action.TheVariants as actions
-use Rattle.java_control.specs.declared.action.Scope.TheVariants as scopes
-use Rattle.java_control.specs.declared.item.Condition.{Condition}
-use Rattle.java_control.specs.declared.item.Condition.TheVariants as conditions
+use Rattle.control_actions.specs.declared.action.Action.TheVariants as actions
+use Rattle.control_actions.specs.declared.action.Scope.TheVariants as scopes
+use Rattle.control_actions.specs.declared.item.Condition.{Condition}
+use Rattle.control_actions.specs.declared.item.Condition.TheVariants as conditions
 use Rattle.java_control.specs.Exceptions.{clauses_in, clauses_of_kind}
 use Rattle.java_control.specs.Statements.{class_of_type, clauses_front, closes, declaration_front, expression_statement, finally_front, head_front, loop_turn, for_turn, return_front, super_front, for_condition, initial_front, list_of_branch, opens, resources_front, statement_front, try_front}
 use Rattle.java_control.specs.Remaining.{Todo, nil, Do, Ev, Act, Cond, LoopEnd, For, Leave, Catch, one, two}
@@ -99,9 +98,6 @@ turn_of b w x here kind k X Y r = subst (λ (z : StatementKind). TurnOf b z X Y)
 
 for_of : (b : Body) (w : StmtId) (x : TStmt) → statement_at b w ≡ Some x → (kind : StatementKind) → x.kind ≡ kind → (X Y : Type 0) → ForEnds (statement_at b w) X Y → ForOf kind X Y
 for_of b w x here kind k X Y r = subst (λ (z : StatementKind). ForOf z X Y) k (subst (λ (o : Option TStmt). ForEnds o X Y) here r)
-
-not_always : (a : Bool) (x : Bool) → not a ≡ true → (not a || x) ≡ true
-not_always a x h = or_left (not a) x h
 
 -- one turn of a `while` or `for` whose body is `x`
 via_turn : (b : Body) (c : Condition) (always : Bool) → (may_fail b c ≡ true → not always ≡ true) → (x w : StmtId) (d : ℕ) (q : Arrival → Type 0) → completion b w ≡ loop_completion always (completion b x) → (TurnEnds b (statement_at b w) (Via (completion b w) q) (q normally) → Via (completion b w) q) → after_all b (Cond c d (two (Do x d) (LoopEnd w d)) nil ∷ []) q normally → Via (completion b w) q
@@ -236,9 +232,6 @@ via_return b (Some e) d pos q r = throws (once r)
 -- a part of expressions, and what is behind it
 pub plain_front : (b : Body) (xs ys : List Todo) (q : Arrival → Type 0) → list_all (fits true) xs ≡ true → after_all b (xs ++ ys) q normally → Plainly (after_all b ys q)
 plain_front b xs ys q h r = plainly b xs (after_all b ys q) h (at_front b xs ys q normally r)
-
-no_class : ClassId → Bool
-no_class c = false
 
 via_branch : (b : Body) (y : Option StmtId) (d : ℕ) (q : Arrival → Type 0) → after_in b (list_of_branch y d) q normally → Via (else_completion (completion b) y) q
 via_branch b None d q r = goes refl r

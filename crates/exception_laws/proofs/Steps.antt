@@ -16,10 +16,10 @@ use Rattle.program_model.specs.declared.tree.TStmt.{TStmt}
 use Rattle.program_model.specs.Lookups.{expression_at, optional, statement_at}
 use Rattle.program_model.specs.Trees.{expressions_in, operands, statements_in}
 use Rattle.rlc_base.specs.declared.place.Pos.{Pos}
-use Rattle.java_control.specs.declared.action.Action.{Action}
-use Rattle.java_control.specs.declared.action.Action.TheVariants as actions
-use Rattle.java_control.specs.declared.item.Condition.{Condition}
-use Rattle.java_control.specs.declared.item.Condition.TheVariants as conditions
+use Rattle.control_actions.specs.declared.action.Action.{Action}
+use Rattle.control_actions.specs.declared.action.Action.TheVariants as actions
+use Rattle.control_actions.specs.declared.item.Condition.{Condition}
+use Rattle.control_actions.specs.declared.item.Condition.TheVariants as conditions
 use Rattle.java_control.specs.Conditions.{condition_front}
 use Rattle.java_control.specs.Control.{expression_ways, for_ways, loop_ways, statement_ways}
 use Rattle.java_control.specs.Exceptions.{clauses_in, clauses_of_kind}

@@ -7,10 +7,10 @@ use Rattle.program_model.specs.declared.kinds.BinaryOperator.TheVariants as bina
 use Rattle.program_model.specs.declared.kinds.ClassId.{ClassId}
 use Rattle.program_model.specs.declared.program.Program.{Program}
 use Rattle.program_model.specs.SuperTests.{has_class, is_ignored}
-use Rattle.java_control.specs.declared.action.Action.{Action}
-use Rattle.java_control.specs.declared.action.Action.TheVariants as actions
-use Rattle.java_control.specs.declared.action.Operator.{Operator}
-use Rattle.java_control.specs.declared.action.Operator.TheVariants as operators
+use Rattle.control_actions.specs.declared.action.Action.{Action}
+use Rattle.control_actions.specs.declared.action.Action.TheVariants as actions
+use Rattle.control_actions.specs.declared.action.Operator.{Operator}
+use Rattle.control_actions.specs.declared.action.Operator.TheVariants as operators
 use Rattle.java_control.specs.Exceptions.{binary_exceptions, declared_exceptions, exceptions_of, heeded, heeded_by_call, operator_exceptions, other_exceptions, own_exceptions, receiver_exceptions, throws_some_heeded, unchecked, with_class, with_classes}
 use Rattle.accepted_programs.proofs.Lists.{None', join, or_first, or_neither, or_second}
 

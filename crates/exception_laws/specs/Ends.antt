@@ -7,8 +7,8 @@ use Rattle.program_model.specs.declared.kinds.ClassId.{ClassId}
 use Rattle.program_model.specs.declared.program.Method.{Method}
 use Rattle.program_model.specs.declared.program.Program.{Program}
 use Rattle.program_model.specs.Hierarchy.{IsUnder}
-use Rattle.java_control.specs.declared.action.Action.TheVariants as actions
-use Rattle.java_control.specs.declared.action.Completion.TheVariants as completions
+use Rattle.control_actions.specs.declared.action.Action.TheVariants as actions
+use Rattle.control_actions.specs.declared.action.Completion.TheVariants as completions
 use Rattle.java_control.specs.Remaining.{Todo}
 use Rattle.ledger_calls.specs.Calls.{leaves_by}
 use Rattle.accepted_programs.specs.Paths.{Comes, Move, relation_of}

@@ -2,15 +2,15 @@
 use Rattle.std.proofs.Common.{◌≡◌, inl, inr, ℕ, Bool, true, false, ◌||◌, Option, Some, None, refl, sym, ap, ◌∙◌, true≢false}
 use Rattle.program_model.specs.declared.kinds.BodyId.{BodyId}
 use Rattle.program_model.specs.declared.program.Program.{Program}
-use Rattle.java_control.specs.declared.action.Action.{Action}
-use Rattle.java_control.specs.declared.fact.Fact.{Fact}
-use Rattle.java_control.specs.declared.fact.Mode.{Mode}
-use Rattle.java_control.specs.declared.fact.Mode.TheVariants as modes
-use Rattle.java_control.specs.declared.fact.Origin.{Origin}
+use Rattle.control_actions.specs.declared.action.Action.{Action}
+use Rattle.control_actions.specs.declared.fact.Fact.{Fact}
+use Rattle.control_actions.specs.declared.fact.Mode.{Mode}
+use Rattle.control_actions.specs.declared.fact.Mode.TheVariants as modes
+use Rattle.control_actions.specs.declared.fact.Origin.{Origin}
 use Rattle.std.proofs.lemmas.Bool.{or_parts}
 use Rattle.ownership_rules.specs.Bodies.{alias_position, reset_in}
 use Rattle.ownership_rules.specs.Callees.{callee}
-use Rattle.ownership_rules.specs.Facts.{PlaceSet, is_origin_at}
+use Rattle.ownership_rules.specs.Facts.{is_origin_at}
 use Rattle.ownership_rules.specs.MustCallSets.{is_heavy_class}
 use Rattle.must_call_reset.specs.Resets.{is_bad_target, is_hidden_this, is_partial_object, is_unannounced, is_unanswered, reset_at, reset_of, reset_target}
 use Rattle.must_call_reset.specs.declared.reset_move.ResetMove.TheVariants as resets
@@ -43,10 +43,6 @@ answered modes.Held true none = inr (refl, inr refl)
 answered modes.Held false none = absurd (true≢false none)
 answered modes.Lent heavy none = inl refl
 answered modes.Alias heavy none = absurd (true≢false none)
-
--- a call without a reset has no target
-pub no_target : (p : Program) (a : Action) (held : PlaceSet) → reset_in (callee p a) ≡ None → is_target p a held ≡ false
-no_target p a held none = ap (holds_target a held) none
 
 -- what breaks no rule may be created anew
 pub may_be_anew : (p : Program) (b : BodyId) (o : Origin) (a : Action) (k : ℕ) (f : Fact) → is_bad_target p b o a k f ≡ false → is_unannounced p b f ≡ false → MayBeAnew p b o a k f

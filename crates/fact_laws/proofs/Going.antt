@@ -11,17 +11,17 @@ use Rattle.program_model.specs.declared.kinds.VType.{VType}
 use Rattle.ownership_rules.specs.MustCallSets.{fits_type, is_heavy_as, is_heavy_class, no_names}
 use Rattle.java_control.specs.PlaceNumbers.{number_of}
 use Rattle.java_control.specs.Sources.{is_null_pointer}
-use Rattle.java_control.specs.declared.action.Action.{Action}
-use Rattle.java_control.specs.declared.action.Action.TheVariants as actions
-use Rattle.java_control.specs.declared.action.Edge.{Edge}
-use Rattle.java_control.specs.declared.action.Edge.TheVariants as edges
-use Rattle.java_control.specs.declared.fact.Fact.{Fact}
-use Rattle.java_control.specs.declared.fact.Mode.{Mode}
-use Rattle.java_control.specs.declared.fact.Mode.TheVariants as modes
-use Rattle.java_control.specs.declared.fact.Origin.{Origin}
-use Rattle.java_control.specs.declared.place.Place.{Place}
-use Rattle.java_control.specs.declared.place.Place.TheVariants as places
-use Rattle.java_control.specs.declared.fact.Rule.TheVariants as rules
+use Rattle.control_actions.specs.declared.action.Action.{Action}
+use Rattle.control_actions.specs.declared.action.Action.TheVariants as actions
+use Rattle.control_actions.specs.declared.action.Edge.{Edge}
+use Rattle.control_actions.specs.declared.action.Edge.TheVariants as edges
+use Rattle.control_actions.specs.declared.fact.Fact.{Fact}
+use Rattle.control_actions.specs.declared.fact.Mode.{Mode}
+use Rattle.control_actions.specs.declared.fact.Mode.TheVariants as modes
+use Rattle.control_actions.specs.declared.fact.Origin.{Origin}
+use Rattle.control_actions.specs.declared.place.Place.{Place}
+use Rattle.control_actions.specs.declared.place.Place.TheVariants as places
+use Rattle.control_actions.specs.declared.fact.Rule.TheVariants as rules
 use Rattle.ownership_rules.specs.Callees.{callee, may_be_null_target}
 use Rattle.ownership_rules.specs.Facts.{Names, PlaceSet, has, is_held, is_met, is_nowhere, leave, mode_at, without}
 use Rattle.place_laws.specs.PlaceRows.{places_after}

@@ -23,19 +23,19 @@ use Rattle.java_control.specs.Owned.{field_number, place_of_field}
 use Rattle.java_control.specs.Sources.{is_null_pointer, is_throws}
 use Rattle.java_control.specs.PlaceNumbers.{number_of}
 use Rattle.java_control.specs.Remaining.{Todo}
-use Rattle.java_control.specs.declared.action.Action.{Action}
-use Rattle.java_control.specs.declared.action.Action.TheVariants as actions
-use Rattle.java_control.specs.declared.action.Edge.{Edge}
-use Rattle.java_control.specs.declared.action.Edge.TheVariants as edges
-use Rattle.java_control.specs.declared.fact.Fact.{Fact}
-use Rattle.java_control.specs.declared.fact.Mode.{Mode}
-use Rattle.java_control.specs.declared.fact.Mode.TheVariants as modes
-use Rattle.java_control.specs.declared.fact.Origin.{Origin}
-use Rattle.java_control.specs.declared.fact.Rule.TheVariants as rules
-use Rattle.java_control.specs.declared.fact.OriginKind.TheVariants as kinds
-use Rattle.java_control.specs.declared.fact.Outcome.{Outcome}
-use Rattle.java_control.specs.declared.fact.Outcome.TheVariants.{Next, Gone, Fault}
-use Rattle.java_control.specs.declared.place.Place.TheVariants as places
+use Rattle.control_actions.specs.declared.action.Action.{Action}
+use Rattle.control_actions.specs.declared.action.Action.TheVariants as actions
+use Rattle.control_actions.specs.declared.action.Edge.{Edge}
+use Rattle.control_actions.specs.declared.action.Edge.TheVariants as edges
+use Rattle.control_actions.specs.declared.fact.Fact.{Fact}
+use Rattle.control_actions.specs.declared.fact.Mode.{Mode}
+use Rattle.control_actions.specs.declared.fact.Mode.TheVariants as modes
+use Rattle.control_actions.specs.declared.fact.Origin.{Origin}
+use Rattle.control_actions.specs.declared.fact.Rule.TheVariants as rules
+use Rattle.control_actions.specs.declared.fact.OriginKind.TheVariants as kinds
+use Rattle.control_actions.specs.declared.fact.Outcome.{Outcome}
+use Rattle.control_actions.specs.declared.fact.Outcome.TheVariants.{Next, Gone, Fault}
+use Rattle.control_actions.specs.declared.place.Place.TheVariants as places
 use Rattle.ownership_rules.specs.Bodies.{fields_of, has_field_place}
 use Rattle.ownership_rules.specs.Births.{Birth, birth_on, births_at_entry, births_of_step, entry_births_in, entry_births_of, fact_at, field_birth, field_birth_place, field_births, has_this, held_births, origin_of, owning_field_birth, parameter_birth, parameter_births, parameter_mode, reset_births, this_birth, this_mode}
 use Rattle.ownership_rules.specs.Facts.{PlaceSet, has, has_field, has_field_from, has_part, is_held, is_met, is_nowhere, leave, missing, mode_at, owes, with_place, without}
@@ -43,7 +43,6 @@ use Rattle.ownership_rules.specs.MovesAtReturns.{moved_at_return}
 use Rattle.ownership_rules.specs.MustCallSets.{beyond_type, fits_type, must_of, no_names}
 use Rattle.ownership_rules.specs.Signatures.{field_type, is_position}
 use Rattle.place_laws.specs.Accept.{Accept}
-use Rattle.place_laws.specs.CalledRows.{called_after}
 use Rattle.place_laws.specs.Calls.{called, with_called}
 use Rattle.place_laws.specs.Flow.{cast, flow, null_tested, placed, raised, tested, turn, turned}
 use Rattle.place_laws.specs.OwningFieldsStores.{heavy_stored, is_heavy_store, keeps_other, lacks_reset, may_store, object_stored, stored, stored_over, with_field}

@@ -1,7 +1,6 @@
 -- What is lent stays so on each path; so the fact of `this` is in mode Lent in a constructor, and in a method that creates the obligation of `this` anew.
-use Rattle.std.proofs.Common.{◌≡◌, ◌⊎◌, inl, inr, ℕ, ◌+◌, Bool, true, false, not, ◌&&◌, ◌||◌, true≢false, Option, Some, None, List, [], ◌∷◌, ◌++◌, slice_get, refl, sym, subst, ap, ◌∙◌}
+use Rattle.std.proofs.Common.{◌≡◌, ℕ, ◌+◌, Bool, true, false, not, ◌&&◌, ◌||◌, true≢false, Option, Some, None, List, [], ◌∷◌, ◌++◌, slice_get, refl, sym, subst, ap, ◌∙◌}
 use Rattle.std.specs.Prelude.{if◌then◌else◌}
-use Rattle.std.specs.List.{cons_option, filter_map}
 use Rattle.program_model.specs.declared.kinds.BodyId.{BodyId}
 use Rattle.program_model.specs.declared.kinds.FieldId.{FieldId}
 use Rattle.program_model.specs.declared.kinds.MethodKind.{MethodKind}
@@ -16,23 +15,22 @@ use Rattle.program_model.specs.Lookups.{body_at, method_at, optional, variable_a
 use Rattle.java_control.specs.Owned.{place_of_field}
 use Rattle.java_control.specs.Sources.{is_null_pointer, is_throws}
 use Rattle.java_control.specs.Remaining.{Todo}
-use Rattle.java_control.specs.declared.action.Action.{Action}
-use Rattle.java_control.specs.declared.action.Action.TheVariants as actions
-use Rattle.java_control.specs.declared.action.Edge.{Edge}
-use Rattle.java_control.specs.declared.action.Edge.TheVariants as edges
-use Rattle.java_control.specs.declared.fact.Fact.{Fact}
-use Rattle.java_control.specs.declared.fact.Mode.{Mode}
-use Rattle.java_control.specs.declared.fact.Mode.TheVariants as modes
-use Rattle.java_control.specs.declared.fact.Origin.{Origin}
-use Rattle.java_control.specs.declared.fact.OriginKind.{OriginKind}
-use Rattle.java_control.specs.declared.fact.OriginKind.TheVariants as kinds
-use Rattle.java_control.specs.declared.fact.Outcome.{Outcome}
-use Rattle.java_control.specs.declared.fact.Outcome.TheVariants.{Next, Gone, Fault}
-use Rattle.java_control.specs.declared.fact.Rule.TheVariants as rules
-use Rattle.java_control.specs.declared.place.Place.TheVariants as places
+use Rattle.control_actions.specs.declared.action.Action.{Action}
+use Rattle.control_actions.specs.declared.action.Action.TheVariants as actions
+use Rattle.control_actions.specs.declared.action.Edge.{Edge}
+use Rattle.control_actions.specs.declared.action.Edge.TheVariants as edges
+use Rattle.control_actions.specs.declared.fact.Fact.{Fact}
+use Rattle.control_actions.specs.declared.fact.Mode.{Mode}
+use Rattle.control_actions.specs.declared.fact.Mode.TheVariants as modes
+use Rattle.control_actions.specs.declared.fact.Origin.{Origin}
+use Rattle.control_actions.specs.declared.fact.OriginKind.TheVariants as kinds
+use Rattle.control_actions.specs.declared.fact.Outcome.{Outcome}
+use Rattle.control_actions.specs.declared.fact.Outcome.TheVariants.{Next, Gone, Fault}
+use Rattle.control_actions.specs.declared.fact.Rule.TheVariants as rules
+use Rattle.control_actions.specs.declared.place.Place.TheVariants as places
 use Rattle.ownership_rules.specs.Bodies.{fields_of, is_alias_constructor, is_constructor_kind}
 use Rattle.ownership_rules.specs.Callees.{may_be_null_target}
-use Rattle.ownership_rules.specs.Births.{Birth, births_at_entry, entry_births_in, entry_births_of, fact_at, field_birth, has_this, held_births, origin_of, parameter_birth, parameter_births, parameter_mode, this_birth, this_mode}
+use Rattle.ownership_rules.specs.Births.{Birth, births_at_entry, entry_births_in, entry_births_of, fact_at, has_this, held_births, origin_of, parameter_birth, parameter_births, parameter_mode, this_birth, this_mode}
 use Rattle.ownership_rules.specs.Facts.{Names, PlaceSet, has, is_alias, is_held, is_lent, is_met, is_nowhere, is_own, leave, missing, mode_at, owes, position_of, without}
 use Rattle.ownership_rules.specs.Heavy.{is_owned}
 use Rattle.ownership_rules.specs.MovesAtCalls.{first_of, has_two_owners, moved_at_call, moved_to_first, owners}
@@ -42,7 +40,7 @@ use Rattle.ownership_rules.specs.Signatures.{field_type, is_position}
 use Rattle.ownership_rules.specs.declared.moved.Moved.{Moved}
 use Rattle.ownership_rules.specs.declared.moved.Moved.TheVariants.{Stays, Moves, Bad}
 use Rattle.place_laws.specs.CalledRows.{called_after}
-use Rattle.place_laws.specs.Calls.{after_move, after_reset, at_move, at_precondition, called, with_called}
+use Rattle.place_laws.specs.Calls.{after_reset, at_move, at_precondition, called, with_called}
 use Rattle.place_laws.specs.Flow.{cast, flow, null_tested, placed, raised, tested, turn, turned}
 use Rattle.place_laws.specs.OwningFieldsStores.{heavy_stored, is_heavy_store, keeps_other, lacks_reset, may_store, object_stored, stored, stored_over, with_field}
 use Rattle.place_laws.specs.Paths.{Reach, born, entered, flowed, relation_of}

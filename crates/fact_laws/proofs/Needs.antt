@@ -1,5 +1,5 @@
 -- What an origin needs in full is all that its class asks for.
-use Rattle.std.proofs.Common.{◌≡◌, ap, refl, sym, subst, ℕ, ◌+◌, Bool, true, false, not, ◌&&◌, Option, Some, None, List, [], ◌∷◌, ◌++◌, slice_get}
+use Rattle.std.proofs.Common.{◌≡◌, refl, ℕ, ◌+◌, Bool, true, false, not, ◌&&◌, Option, Some, None, List, [], ◌∷◌, ◌++◌}
 use Rattle.std.specs.Prelude.{if◌then◌else◌}
 use Rattle.std.specs.List.{cons_option, filter_map}
 use Rattle.rlc_base.specs.declared.place.Pos.{Pos}
@@ -21,19 +21,19 @@ use Rattle.program_model.specs.Lookups.{body_at, field_at, method_at, optional, 
 use Rattle.java_control.specs.Calls.{is_reset_of_this}
 use Rattle.java_control.specs.Owned.{place_of_field}
 use Rattle.java_control.specs.Remaining.{Todo}
-use Rattle.java_control.specs.declared.action.Action.{Action}
-use Rattle.java_control.specs.declared.action.Action.TheVariants as actions
-use Rattle.java_control.specs.declared.action.Edge.{Edge}
-use Rattle.java_control.specs.declared.action.Edge.TheVariants as edges
-use Rattle.java_control.specs.declared.action.PlainValue.{PlainValue}
-use Rattle.java_control.specs.declared.action.PlainValue.TheVariants as plain
-use Rattle.java_control.specs.declared.fact.Fact.{Fact}
-use Rattle.java_control.specs.declared.fact.Mode.TheVariants as modes
-use Rattle.java_control.specs.declared.fact.Origin.{Origin}
-use Rattle.java_control.specs.declared.fact.OriginKind.{OriginKind}
-use Rattle.java_control.specs.declared.fact.OriginKind.TheVariants as kinds
-use Rattle.java_control.specs.declared.place.Place.{Place}
-use Rattle.java_control.specs.declared.place.Place.TheVariants as places
+use Rattle.control_actions.specs.declared.action.Action.{Action}
+use Rattle.control_actions.specs.declared.action.Action.TheVariants as actions
+use Rattle.control_actions.specs.declared.action.Edge.{Edge}
+use Rattle.control_actions.specs.declared.action.Edge.TheVariants as edges
+use Rattle.control_actions.specs.declared.action.PlainValue.{PlainValue}
+use Rattle.control_actions.specs.declared.action.PlainValue.TheVariants as plain
+use Rattle.control_actions.specs.declared.fact.Fact.{Fact}
+use Rattle.control_actions.specs.declared.fact.Mode.TheVariants as modes
+use Rattle.control_actions.specs.declared.fact.Origin.{Origin}
+use Rattle.control_actions.specs.declared.fact.OriginKind.{OriginKind}
+use Rattle.control_actions.specs.declared.fact.OriginKind.TheVariants as kinds
+use Rattle.control_actions.specs.declared.place.Place.{Place}
+use Rattle.control_actions.specs.declared.place.Place.TheVariants as places
 use Rattle.ownership_rules.specs.Bodies.{fields_of, has_field_place}
 use Rattle.ownership_rules.specs.MustCallSets.{Names, is_heavy_class, must_of, no_names}
 use Rattle.place_laws.specs.Paths.{Reach, born, entered, flowed, relation_of}

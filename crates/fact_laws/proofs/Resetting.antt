@@ -4,13 +4,13 @@ use Rattle.std.proofs.Common.{◌≡◌, ◌⊎◌, inl, inr, ℕ, Bool, true, f
 use Rattle.std.specs.FinSet as set
 use Rattle.program_model.specs.declared.kinds.BodyId.{BodyId}
 use Rattle.program_model.specs.declared.program.Program.{Program}
-use Rattle.java_control.specs.declared.action.Action.{Action}
-use Rattle.java_control.specs.declared.action.Action.TheVariants as actions
-use Rattle.java_control.specs.declared.action.Edge.{Edge}
-use Rattle.java_control.specs.declared.fact.Fact.{Fact}
-use Rattle.java_control.specs.declared.fact.Mode.TheVariants as modes
-use Rattle.java_control.specs.declared.fact.Origin.{Origin}
-use Rattle.java_control.specs.declared.place.Place.{Place}
+use Rattle.control_actions.specs.declared.action.Action.{Action}
+use Rattle.control_actions.specs.declared.action.Action.TheVariants as actions
+use Rattle.control_actions.specs.declared.action.Edge.{Edge}
+use Rattle.control_actions.specs.declared.fact.Fact.{Fact}
+use Rattle.control_actions.specs.declared.fact.Mode.TheVariants as modes
+use Rattle.control_actions.specs.declared.fact.Origin.{Origin}
+use Rattle.control_actions.specs.declared.place.Place.{Place}
 use Rattle.ownership_rules.specs.Bodies.{reset_in}
 use Rattle.place_laws.specs.CalledRows.{called_after}
 use Rattle.ownership_rules.specs.Callees.{callee}
@@ -29,8 +29,8 @@ use Rattle.must_call_reset.specs.Resets.{is_bad_target, is_unannounced, reset_ta
 use Rattle.must_call_reset.specs.declared.reset_move.ResetMove.{ResetMove}
 use Rattle.fact_laws.specs.Anew.{GoesAnew, MayBeAnew, fact_anew, is_target}
 use Rattle.rlc_base.proofs.SetLaws.{empty_within}
-use Rattle.java_control.specs.declared.fact.Outcome.{Outcome}
-use Rattle.java_control.specs.declared.fact.Outcome.TheVariants.{Next, Gone, Fault}
+use Rattle.control_actions.specs.declared.fact.Outcome.{Outcome}
+use Rattle.control_actions.specs.declared.fact.Outcome.TheVariants.{Next, Gone, Fault}
 use Rattle.fact_laws.specs.Going.{GoesAs}
 use Rattle.fact_laws.proofs.Going.{apart, held_stays, left_as, lent_before, mode_stays}
 use Rattle.fact_laws.proofs.FactTargets.{may_be_anew, targeted, untouched}

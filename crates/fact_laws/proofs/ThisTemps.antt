@@ -1,5 +1,5 @@
 -- The temps from which a call on `this` takes `this` are among the places of the fact of `this` that a path brings there. And a body in which no owning field has a place has no fact in mode Held.
-use Rattle.std.proofs.Common.{◌≡◌, ◌⊎◌, inl, inr, arith, ℕ, ◌+◌, ◌<◌, Bool, true, false, not, ◌&&◌, ◌||◌, true≢false, nat_eq, eq-eqb, eqb-true, Option, Some, None, List, slice_get, option_map, refl, sym, subst, ap, ◌∙◌}
+use Rattle.std.proofs.Common.{◌≡◌, inl, inr, arith, ℕ, ◌+◌, ◌<◌, Bool, true, false, not, ◌&&◌, ◌||◌, true≢false, nat_eq, eq-eqb, eqb-true, Option, Some, None, List, slice_get, option_map, refl, sym, subst, ap, ◌∙◌}
 use Rattle.std.specs.Prelude.{if◌then◌else◌}
 use Rattle.std.proofs.lemmas.Bool.{or_right}
 use Rattle.std.proofs.lemmas.Option.{slice_get-map}
@@ -13,20 +13,20 @@ use Rattle.java_control.specs.Control.{Step, next_of}
 use Rattle.java_control.specs.Owned.{place_of_field}
 use Rattle.java_control.specs.PlaceNumbers.{IsSmall}
 use Rattle.java_control.specs.Remaining.{Todo}
-use Rattle.java_control.specs.Sources.{is_null_pointer, is_throws, source}
-use Rattle.java_control.specs.declared.action.Action.{Action}
-use Rattle.java_control.specs.declared.action.Action.TheVariants as actions
-use Rattle.java_control.specs.declared.action.Edge.{Edge}
-use Rattle.java_control.specs.declared.action.Edge.TheVariants as edges
-use Rattle.java_control.specs.declared.fact.Fact.{Fact}
-use Rattle.java_control.specs.declared.fact.Mode.TheVariants as modes
-use Rattle.java_control.specs.declared.fact.Origin.{Origin}
-use Rattle.java_control.specs.declared.fact.OriginKind.TheVariants as kinds
-use Rattle.java_control.specs.declared.fact.Outcome.{Outcome}
-use Rattle.java_control.specs.declared.fact.Outcome.TheVariants.{Next, Gone, Fault}
-use Rattle.java_control.specs.declared.fact.Rule.TheVariants as rules
-use Rattle.java_control.specs.declared.place.Place.{Place}
-use Rattle.java_control.specs.declared.place.Place.TheVariants as places
+use Rattle.java_control.specs.Sources.{is_null_pointer}
+use Rattle.control_actions.specs.declared.action.Action.{Action}
+use Rattle.control_actions.specs.declared.action.Action.TheVariants as actions
+use Rattle.control_actions.specs.declared.action.Edge.{Edge}
+use Rattle.control_actions.specs.declared.action.Edge.TheVariants as edges
+use Rattle.control_actions.specs.declared.fact.Fact.{Fact}
+use Rattle.control_actions.specs.declared.fact.Mode.TheVariants as modes
+use Rattle.control_actions.specs.declared.fact.Origin.{Origin}
+use Rattle.control_actions.specs.declared.fact.OriginKind.TheVariants as kinds
+use Rattle.control_actions.specs.declared.fact.Outcome.{Outcome}
+use Rattle.control_actions.specs.declared.fact.Outcome.TheVariants.{Next, Gone, Fault}
+use Rattle.control_actions.specs.declared.fact.Rule.TheVariants as rules
+use Rattle.control_actions.specs.declared.place.Place.{Place}
+use Rattle.control_actions.specs.declared.place.Place.TheVariants as places
 use Rattle.ownership_rules.specs.Bodies.{has_field_place}
 use Rattle.ownership_rules.specs.Facts.{PlaceSet, has, is_held, is_met, is_nowhere, is_origin_at, leave, missing, mode_at, owes, position_of, without}
 use Rattle.ownership_rules.specs.MovesAtReturns.{moved_at_return}
@@ -41,7 +41,7 @@ use Rattle.place_laws.specs.Paths.{Comes, Move, Reach, born, entered, flowed, mo
 use Rattle.place_laws.specs.PlaceRows.{copied, places_after}
 use Rattle.place_laws.specs.PlaceRows as rows
 use Rattle.place_laws.specs.Places.{IsWay, has_source, takes_alias}
-use Rattle.place_laws.specs.StepTargets.{FindsIt, FindsThis, after, below}
+use Rattle.place_laws.specs.StepTargets.{FindsIt, FindsThis, after}
 use Rattle.place_laws.proofs.PlaceLaws.{places_come_from_sources}
 use Rattle.place_laws.proofs.SetLaws.{has_copied, has_with, has_without, without_within}
 use Rattle.place_laws.proofs.TargetItems.{finds_more}

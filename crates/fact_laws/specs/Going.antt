@@ -8,11 +8,11 @@ use Rattle.ownership_rules.specs.Bodies.{alias_position, is_alias_constructor}
 use Rattle.ownership_rules.specs.MustCallSets.{Names, fits_type, is_heavy_class}
 use Rattle.ownership_rules.specs.Signatures.{field_type}
 use Rattle.java_control.specs.Owned.{place_of_field}
-use Rattle.java_control.specs.declared.fact.Fact.{Fact}
-use Rattle.java_control.specs.declared.fact.Mode.{Mode}
-use Rattle.java_control.specs.declared.fact.Mode.TheVariants as modes
-use Rattle.java_control.specs.declared.fact.Origin.{Origin}
-use Rattle.java_control.specs.declared.place.Place.TheVariants as places
+use Rattle.control_actions.specs.declared.fact.Fact.{Fact}
+use Rattle.control_actions.specs.declared.fact.Mode.{Mode}
+use Rattle.control_actions.specs.declared.fact.Mode.TheVariants as modes
+use Rattle.control_actions.specs.declared.fact.Origin.{Origin}
+use Rattle.control_actions.specs.declared.place.Place.TheVariants as places
 use Rattle.ownership_rules.specs.Facts.{PlaceSet, has, has_part, is_held, is_met, is_origin_at, is_own}
 use Rattle.place_laws.specs.OwningFieldsStores.{is_heavy_store, lacks_reset}
 

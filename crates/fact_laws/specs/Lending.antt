@@ -1,8 +1,8 @@
 -- What is lent to a method: its caller has it back when the method ends.
 use Rattle.std.specs.Prelude.{◌+◌, Bool, false, ◌||◌}
 use Rattle.program_model.specs.declared.program.Method.{Method}
-use Rattle.java_control.specs.declared.fact.OriginKind.{OriginKind}
-use Rattle.java_control.specs.declared.fact.OriginKind.TheVariants as kinds
+use Rattle.control_actions.specs.declared.fact.OriginKind.{OriginKind}
+use Rattle.control_actions.specs.declared.fact.OriginKind.TheVariants as kinds
 use Rattle.ownership_rules.specs.Bodies.{is_constructor_kind}
 use Rattle.ownership_rules.specs.Signatures.{is_position}
 

@@ -1,8 +1,8 @@
 -- Of which arguments a method's body has a fact that goes with it to its end: of `this`, and of an aliased argument.
 use Rattle.std.specs.Prelude.{ℕ, zero, suc, Bool, false, ◌&&◌, not, Option, Some, None}
 use Rattle.program_model.specs.declared.program.Method.{Method}
-use Rattle.java_control.specs.declared.place.Place.{Place}
-use Rattle.java_control.specs.declared.place.Place.TheVariants as places
+use Rattle.control_actions.specs.declared.place.Place.{Place}
+use Rattle.control_actions.specs.declared.place.Place.TheVariants as places
 use Rattle.ownership_rules.specs.Bodies.{is_constructor_kind, is_instance_kind}
 use Rattle.ownership_rules.specs.Signatures.{is_position}
 

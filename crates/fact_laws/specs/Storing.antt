@@ -5,7 +5,7 @@ use Rattle.program_model.specs.declared.kinds.FieldId.{FieldId}
 use Rattle.program_model.specs.declared.program.Program.{Program}
 use Rattle.java_control.specs.Calls.{is_reset_of_this}
 use Rattle.java_control.specs.Remaining.{Todo}
-use Rattle.java_control.specs.declared.action.Action.TheVariants as actions
+use Rattle.control_actions.specs.declared.action.Action.TheVariants as actions
 use Rattle.place_laws.specs.Paths.{Comes, Move, relation_of}
 
 -- a path through the body to the control has stored into an owning field, or has called what creates the obligation of `this` anew

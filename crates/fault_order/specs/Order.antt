@@ -1,10 +1,10 @@
 -- The order of faults: by place, then by rule, and then by the place and the kind of the origin.
 use Rattle.std.specs.Prelude.{ℕ, ◌+◌, ◌*◌, ◌^◌}
 use Rattle.rlc_base.specs.declared.place.Pos.{Pos}
-use Rattle.java_control.specs.declared.fact.OriginKind.{OriginKind}
-use Rattle.java_control.specs.declared.fact.OriginKind.TheVariants as kinds
-use Rattle.java_control.specs.declared.fact.Rule.{Rule}
-use Rattle.java_control.specs.declared.fact.Rule.TheVariants as rules
+use Rattle.control_actions.specs.declared.fact.OriginKind.{OriginKind}
+use Rattle.control_actions.specs.declared.fact.OriginKind.TheVariants as kinds
+use Rattle.control_actions.specs.declared.fact.Rule.{Rule}
+use Rattle.control_actions.specs.declared.fact.Rule.TheVariants as rules
 use Rattle.fault_order.specs.declared.fault.FaultAt.{FaultAt}
 
 -- places in the order of files, lines and columns

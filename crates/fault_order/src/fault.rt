@@ -1,6 +1,6 @@
 //! Faults.
 
-use java_control::{Origin, Rule};
+use control_actions::{Origin, Rule};
 use rlc_base::{NameSet, Pos};
 
 /// A rule that some path through a body breaks at a place, for the objects of an origin.

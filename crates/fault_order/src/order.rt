@@ -5,7 +5,7 @@ ghost use Rattle.std.specs.Ordering.{nat_cmp};
 ghost use Rattle.fault_order.specs.Order.{kind_number, order_number, place_number, rule_number, step_number};
 
 use crate::fault::FaultAt;
-use java_control::{OriginKind, Rule};
+use control_actions::{OriginKind, Rule};
 use program_model::FieldId;
 use rlc_base::Pos;
 use std::cmp::Ordering;

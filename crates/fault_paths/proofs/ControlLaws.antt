@@ -8,8 +8,8 @@ use Rattle.breadth_first.specs.Searches.{IsAt}
 use Rattle.breadth_first.proofs.ListLaws.{at_map, map_at}
 use Rattle.java_control.specs.Control.{Step, next_of, start_of}
 use Rattle.java_control.specs.Remaining.{Todo}
-use Rattle.java_control.specs.declared.fact.Fact.{Fact}
-use Rattle.java_control.specs.declared.fact.Origin.{Origin}
+use Rattle.control_actions.specs.declared.fact.Fact.{Fact}
+use Rattle.control_actions.specs.declared.fact.Origin.{Origin}
 use Rattle.java_cfg.specs.Graphs.{IsGraphOf}
 use Rattle.java_cfg.specs.declared.arc.Arc.{Arc}
 use Rattle.flow_rules.specs.Births.{births_of_step}

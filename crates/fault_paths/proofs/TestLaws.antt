@@ -12,23 +12,23 @@ use Rattle.rlc_base.specs.contracts.place.PosEq.TheImpl.Laws as pos_laws
 use Rattle.program_model.specs.declared.kinds.BodyId.{BodyId}
 use Rattle.program_model.specs.declared.program.Program.{Program}
 use Rattle.java_cfg.specs.declared.arc.Arc.{Arc}
-use Rattle.java_control.specs.contracts.action.ActionPartialEq.TheImpl as action_eq
-use Rattle.java_control.specs.contracts.action.ActionEq.TheImpl.Laws as action_laws
-use Rattle.java_control.specs.contracts.action.EdgePartialEq.TheImpl as edge_eq
-use Rattle.java_control.specs.contracts.action.EdgeEq.TheImpl.Laws as edge_laws
-use Rattle.java_control.specs.contracts.fact.FactPartialEq.TheImpl as fact_eq
-use Rattle.java_control.specs.contracts.fact.OriginEq.TheImpl.Laws as origin_laws
-use Rattle.java_control.specs.contracts.fact.Rule as rule_type
-use Rattle.java_control.specs.contracts.fact.RulePartialEq.TheImpl as rule_eq
-use Rattle.java_control.specs.contracts.fact.RuleEq.TheImpl.Laws as rule_laws
-use Rattle.java_control.specs.declared.action.Edge.{Edge}
-use Rattle.java_control.specs.declared.action.Edge.TheVariants as edges
-use Rattle.java_control.specs.declared.fact.Fact.{Fact}
-use Rattle.java_control.specs.declared.fact.Origin.{Origin}
-use Rattle.java_control.specs.declared.fact.Outcome.{Outcome}
-use Rattle.java_control.specs.declared.fact.Outcome.TheVariants.{Next, Gone, Fault}
-use Rattle.java_control.specs.declared.fact.Rule.{Rule}
-use Rattle.java_control.proofs.EqLemmas.{exact_action, exact_pos}
+use Rattle.control_actions.specs.contracts.action.ActionPartialEq.TheImpl as action_eq
+use Rattle.control_actions.specs.contracts.action.ActionEq.TheImpl.Laws as action_laws
+use Rattle.control_actions.specs.contracts.action.EdgePartialEq.TheImpl as edge_eq
+use Rattle.control_actions.specs.contracts.action.EdgeEq.TheImpl.Laws as edge_laws
+use Rattle.control_actions.specs.contracts.fact.FactPartialEq.TheImpl as fact_eq
+use Rattle.control_actions.specs.contracts.fact.OriginEq.TheImpl.Laws as origin_laws
+use Rattle.control_actions.specs.contracts.fact.Rule as rule_type
+use Rattle.control_actions.specs.contracts.fact.RulePartialEq.TheImpl as rule_eq
+use Rattle.control_actions.specs.contracts.fact.RuleEq.TheImpl.Laws as rule_laws
+use Rattle.control_actions.specs.declared.action.Edge.{Edge}
+use Rattle.control_actions.specs.declared.action.Edge.TheVariants as edges
+use Rattle.control_actions.specs.declared.fact.Fact.{Fact}
+use Rattle.control_actions.specs.declared.fact.Origin.{Origin}
+use Rattle.control_actions.specs.declared.fact.Outcome.{Outcome}
+use Rattle.control_actions.specs.declared.fact.Outcome.TheVariants.{Next, Gone, Fault}
+use Rattle.control_actions.specs.declared.fact.Rule.{Rule}
+use Rattle.control_actions.proofs.EqLemmas.{exact_action, exact_pos}
 use Rattle.obligation_facts.specs.Facts.{Names}
 use Rattle.flow_rules.specs.Births.{Birth, births_at_entry}
 use Rattle.flow_rules.specs.Flow.{flow}

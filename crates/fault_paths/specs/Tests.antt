@@ -6,14 +6,14 @@ use Rattle.rlc_base.specs.contracts.place.PosPartialEq.TheImpl as pos_eq
 use Rattle.program_model.specs.declared.kinds.BodyId.{BodyId}
 use Rattle.program_model.specs.declared.program.Program.{Program}
 use Rattle.java_cfg.specs.declared.arc.Arc.{Arc}
-use Rattle.java_control.specs.contracts.action.ActionPartialEq.TheImpl as action_eq
-use Rattle.java_control.specs.contracts.action.EdgePartialEq.TheImpl as edge_eq
-use Rattle.java_control.specs.contracts.fact.FactPartialEq.TheImpl as fact_eq
-use Rattle.java_control.specs.contracts.fact.RulePartialEq.TheImpl as rule_eq
-use Rattle.java_control.specs.declared.fact.Fact.{Fact}
-use Rattle.java_control.specs.declared.fact.Origin.{Origin}
-use Rattle.java_control.specs.declared.fact.Outcome.{Outcome}
-use Rattle.java_control.specs.declared.fact.Outcome.TheVariants.{Next, Gone, Fault}
+use Rattle.control_actions.specs.contracts.action.ActionPartialEq.TheImpl as action_eq
+use Rattle.control_actions.specs.contracts.action.EdgePartialEq.TheImpl as edge_eq
+use Rattle.control_actions.specs.contracts.fact.FactPartialEq.TheImpl as fact_eq
+use Rattle.control_actions.specs.contracts.fact.RulePartialEq.TheImpl as rule_eq
+use Rattle.control_actions.specs.declared.fact.Fact.{Fact}
+use Rattle.control_actions.specs.declared.fact.Origin.{Origin}
+use Rattle.control_actions.specs.declared.fact.Outcome.{Outcome}
+use Rattle.control_actions.specs.declared.fact.Outcome.TheVariants.{Next, Gone, Fault}
 use Rattle.flow_rules.specs.Births.{Birth, births_at_entry}
 use Rattle.flow_rules.specs.Flow.{flow}
 use Rattle.flow_rules.specs.Numbering.{numbered}

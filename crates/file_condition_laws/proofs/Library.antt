@@ -5,7 +5,6 @@ use Rattle.std.specs.List.{AllZip}
 use Rattle.std.specs.Option.{option_map}
 use Rattle.std.proofs.lemmas.List.Elements.{All-cons, All-contains, All-contains_itself, All-nil, All-weaker, Contains-append_cases}
 use Rattle.std.proofs.lemmas.Option.{same_Some, slice_get-map, slice_get_within}
-use Rattle.java_syntax.specs.declared.declaration_trees.FieldDecl.{FieldDecl}
 use Rattle.java_syntax.specs.declared.declaration_trees.Member.{Member}
 use Rattle.java_syntax.specs.declared.declaration_trees.Member.TheVariants as members
 use Rattle.java_syntax.specs.declared.declaration_trees.MethodDecl.{MethodDecl}
@@ -43,7 +42,7 @@ use Rattle.acceptance_laws.proofs.Owners.{IsTied, tied_at}
 use Rattle.acceptance_laws.proofs.WrittenFacts.{IsMethodIn, methods_in}
 use Rattle.acceptance_laws.specs.Table.{all_methods}
 use Rattle.acceptance_laws.specs.Methods.{IsMethod, IsNamedClass, IsWrittenAs}
-use Rattle.acceptance_laws.specs.ClassDeclarationsMembers.{Written, MethodOf, ConstructorOf, ImpliedConstructor, ConstantOf, WrittenMethod, constants_among, implied_constructor, is_constant, kind_of, needs_constructor, result_of, throws_of, written_by, written_by_all, written_in}
+use Rattle.acceptance_laws.specs.ClassDeclarationsMembers.{Written, MethodOf, ConstructorOf, ImpliedConstructor, WrittenMethod, constants_among, implied_constructor, is_constant, kind_of, needs_constructor, result_of, throws_of, written_by, written_by_all, written_in}
 use Rattle.file_condition_laws.proofs.Meanings.{IsOfStub, class_in_stub, type_in_stub}
 
 -- ---- the root of all classes

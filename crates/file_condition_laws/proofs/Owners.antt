@@ -1,5 +1,5 @@
 -- No class of the program of files stands under another one that declares owning fields.
-use Rattle.std.proofs.Common.{◌≡◌, ◌∙◌, inl, inr, ap, refl, sym, subst, arith, ℕ, zero, suc, ◌+◌, ◌<◌, false, Option, Some, None, List, [], ◌∷◌, Contains, length, map, slice_get}
+use Rattle.std.proofs.Common.{◌≡◌, ◌∙◌, inl, inr, ap, sym, subst, arith, ℕ, zero, suc, ◌+◌, Some, None, List, [], ◌∷◌, Contains, length, map, slice_get}
 use Rattle.std.specs.List.{range_with_len}
 use Rattle.rlc_base.specs.declared.code.Code.TheVariants as refused
 use Rattle.program_model.specs.declared.kinds.ClassId.{ClassId}

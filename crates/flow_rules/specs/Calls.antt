@@ -2,15 +2,15 @@
 use Rattle.std.specs.Prelude.{true, Option, Some, None}
 use Rattle.program_model.specs.declared.kinds.BodyId.{BodyId}
 use Rattle.program_model.specs.declared.program.Program.{Program}
-use Rattle.java_control.specs.declared.action.Action.{Action}
-use Rattle.java_control.specs.declared.action.Edge.{Edge}
-use Rattle.java_control.specs.declared.fact.Fact.{Fact}
-use Rattle.java_control.specs.declared.fact.Mode.TheVariants as modes
-use Rattle.java_control.specs.declared.fact.Origin.{Origin}
-use Rattle.java_control.specs.declared.fact.Outcome.{Outcome}
-use Rattle.java_control.specs.declared.fact.Outcome.TheVariants.{Next, Fault}
-use Rattle.java_control.specs.declared.fact.Rule.{Rule}
-use Rattle.java_control.specs.declared.fact.Rule.TheVariants as rules
+use Rattle.control_actions.specs.declared.action.Action.{Action}
+use Rattle.control_actions.specs.declared.action.Edge.{Edge}
+use Rattle.control_actions.specs.declared.fact.Fact.{Fact}
+use Rattle.control_actions.specs.declared.fact.Mode.TheVariants as modes
+use Rattle.control_actions.specs.declared.fact.Origin.{Origin}
+use Rattle.control_actions.specs.declared.fact.Outcome.{Outcome}
+use Rattle.control_actions.specs.declared.fact.Outcome.TheVariants.{Next, Fault}
+use Rattle.control_actions.specs.declared.fact.Rule.{Rule}
+use Rattle.control_actions.specs.declared.fact.Rule.TheVariants as rules
 use Rattle.obligation_facts.specs.Facts.{Names, missing}
 use Rattle.must_call_sets.specs.MustCallSets.{no_names, must_of, beyond_type}
 use Rattle.called_methods.specs.CalledRows.{called_after}

@@ -2,15 +2,15 @@
 use Rattle.std.specs.Prelude.{Bool, true, false, ◌&&◌, not, Option, Some, None, if◌then◌else◌}
 use Rattle.program_model.specs.declared.kinds.BodyId.{BodyId}
 use Rattle.program_model.specs.declared.program.Program.{Program}
-use Rattle.java_control.specs.declared.action.Action.TheVariants as actions
-use Rattle.java_control.specs.declared.action.Completion.{Completion}
-use Rattle.java_control.specs.declared.action.Completion.TheVariants as completions
-use Rattle.java_control.specs.declared.fact.Fact.{Fact}
-use Rattle.java_control.specs.declared.fact.Origin.{Origin}
-use Rattle.java_control.specs.declared.fact.Outcome.{Outcome}
-use Rattle.java_control.specs.declared.fact.Outcome.TheVariants.{Gone, Fault}
-use Rattle.java_control.specs.declared.fact.Rule.{Rule}
-use Rattle.java_control.specs.declared.fact.Rule.TheVariants as rules
+use Rattle.control_actions.specs.declared.action.Action.TheVariants as actions
+use Rattle.control_actions.specs.declared.action.Completion.{Completion}
+use Rattle.control_actions.specs.declared.action.Completion.TheVariants as completions
+use Rattle.control_actions.specs.declared.fact.Fact.{Fact}
+use Rattle.control_actions.specs.declared.fact.Origin.{Origin}
+use Rattle.control_actions.specs.declared.fact.Outcome.{Outcome}
+use Rattle.control_actions.specs.declared.fact.Outcome.TheVariants.{Gone, Fault}
+use Rattle.control_actions.specs.declared.fact.Rule.{Rule}
+use Rattle.control_actions.specs.declared.fact.Rule.TheVariants as rules
 use Rattle.obligation_facts.specs.Facts.{Names, has_field, is_alias, is_held, is_met, is_origin_at, missing, owes}
 use Rattle.must_call_sets.specs.MustCallSets.{must_of, beyond_type, is_heavy_class}
 use Rattle.must_call_sets.specs.Bodies.{is_constructor, alias_position}

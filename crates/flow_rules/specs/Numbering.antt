@@ -1,8 +1,8 @@
 -- Facts whose origin has a number in a list of origins.
 use Rattle.std.specs.Prelude.{ℕ}
-use Rattle.java_control.specs.declared.fact.Fact.{Fact}
-use Rattle.java_control.specs.declared.fact.Outcome.{Outcome}
-use Rattle.java_control.specs.declared.fact.Outcome.TheVariants.{Next, Gone, Fault}
+use Rattle.control_actions.specs.declared.fact.Fact.{Fact}
+use Rattle.control_actions.specs.declared.fact.Outcome.{Outcome}
+use Rattle.control_actions.specs.declared.fact.Outcome.TheVariants.{Next, Gone, Fault}
 
 abbrev pub numbered : ℕ → Fact → Fact
 numbered n f = record f { origin = n }

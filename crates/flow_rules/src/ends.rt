@@ -2,7 +2,7 @@
 
 ghost use Rattle.std.specs.Prelude.{◌≡◌};
 ghost use Rattle.flow_rules.specs.Ends.{after_return, alias_never_returned, constructor_throws, ended, exit_rule, is_throw, left_at_end, missing_at_return, moved_away, promise_at_end};
-ghost use Rattle.java_control.specs.declared.action.Action.TheVariants as actions;
+ghost use Rattle.control_actions.specs.declared.action.Action.TheVariants as actions;
 ghost use Rattle.obligation_facts.specs.SmallActions.{IsSmallAction};
 ghost use Rattle.ownership_rules.specs.Room.{HasRoom};
 

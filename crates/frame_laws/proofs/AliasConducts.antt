@@ -36,8 +36,8 @@ use Rattle.ledger_state.specs.Contents.{HeapContents}
 use Rattle.ledger_state.specs.declared.array.ArrayObject.{ArrayObject}
 use Rattle.ledger_state.specs.declared.value.Value.{Value}
 use Rattle.ledger_steps.specs.Conducts.{argument_of, fits_type, on_this, plainly, result_in, settled, settled_by}
-use Rattle.java_control.specs.declared.action.Action.{Action}
-use Rattle.java_control.specs.declared.action.Action.TheVariants as actions
+use Rattle.control_actions.specs.declared.action.Action.{Action}
+use Rattle.control_actions.specs.declared.action.Action.TheVariants as actions
 use Rattle.frame_laws.specs.Steps.{is_super}
 
 -- ---- lists

@@ -7,10 +7,10 @@ use Rattle.program_model.specs.declared.program.Method.{Method}
 use Rattle.program_model.specs.declared.program.Program.{Program}
 use Rattle.program_model.specs.Lookups.{method_at}
 use Rattle.ledger_steps.specs.Bodies.{alias_in}
-use Rattle.java_control.specs.declared.action.Action.{Action}
-use Rattle.java_control.specs.declared.action.Action.TheVariants as actions
-use Rattle.java_control.specs.declared.action.Edge.{Edge}
-use Rattle.java_control.specs.declared.action.Edge.TheVariants as edges
+use Rattle.control_actions.specs.declared.action.Action.{Action}
+use Rattle.control_actions.specs.declared.action.Action.TheVariants as actions
+use Rattle.control_actions.specs.declared.action.Edge.{Edge}
+use Rattle.control_actions.specs.declared.action.Edge.TheVariants as edges
 use Rattle.ownership_rules.specs.Callees.{callee, holds_operand}
 use Rattle.ownership_rules.specs.Facts.{PlaceSet, has_temp}
 use Rattle.ownership_rules.specs.SmallActions.{IsSmallAction}
@@ -189,7 +189,7 @@ gives_operand p a edges.False held m small at gives = absurd (true≢false (sym 
 gives_operand p a (edges.Throws c) held m small at gives = absurd (true≢false (sym gives))
 
 -- a super call of the plain forms gives no alias
-plain_super : (p : Program) (a : Action) (e : Edge) (held : PlaceSet) → IsPlainAction p a → gives_alias p a e held ≡ true → is_super a ≡ false
+pub plain_super : (p : Program) (a : Action) (e : Edge) (held : PlaceSet) → IsPlainAction p a → gives_alias p a e held ≡ true → is_super a ≡ false
 plain_super p actions.Skip e held plain gives = refl
 plain_super p (actions.Super m d n) e held plain gives = absurd (true≢false (sym gives ∙ named_gives_none p (actions.Super m d n) e held plain.2))
 plain_super p a e held plain gives = refl

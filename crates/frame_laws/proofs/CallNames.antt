@@ -14,13 +14,13 @@ use Rattle.program_model.specs.Lookups.{method_at}
 use Rattle.ledger_steps.specs.Bodies.{constructs, has_field_place, is_constructor_kind, is_instance_kind}
 use Rattle.ownership_rules.specs.WellFormed.{HasSmallInterests, interest_of}
 use Rattle.java_control.specs.Calls.{operand_at}
-use Rattle.java_control.specs.declared.action.Action.{Action}
-use Rattle.java_control.specs.declared.action.Action.TheVariants as actions
-use Rattle.java_control.specs.declared.action.TargetForm.TheVariants as forms
+use Rattle.control_actions.specs.declared.action.Action.{Action}
+use Rattle.control_actions.specs.declared.action.Action.TheVariants as actions
+use Rattle.control_actions.specs.declared.action.TargetForm.TheVariants as forms
 use Rattle.java_control.specs.Owned.{place_of_field}
 use Rattle.java_control.specs.PlaceNumbers.{IsSmall}
-use Rattle.java_control.specs.declared.place.Place.{Place}
-use Rattle.java_control.specs.declared.place.Place.TheVariants as places
+use Rattle.control_actions.specs.declared.place.Place.{Place}
+use Rattle.control_actions.specs.declared.place.Place.TheVariants as places
 use Rattle.ownership_rules.specs.Callees.{callee, holds_operand, is_super_target, is_this_target}
 use Rattle.ownership_rules.specs.Facts.{PlaceSet, has, has_temp}
 use Rattle.ownership_rules.specs.SmallActions.{IsSmallAction, IsSmallTemp}
@@ -44,11 +44,13 @@ use Rattle.frame_laws.proofs.Carried.{HoldIt}
 
 -- ---- operands
 
-holds_at : (held : PlaceSet) (d : Option ℕ) → has_temp held d ≡ true → (n : ℕ) × (d ≡ Some n) × (has held (places.Temp n) ≡ true)
+-- the temp of an operand that is among the places
+pub holds_at : (held : PlaceSet) (d : Option ℕ) → has_temp held d ≡ true → (n : ℕ) × (d ≡ Some n) × (has held (places.Temp n) ≡ true)
 holds_at held None is = absurd (true≢false (sym is))
 holds_at held (Some n) is = (n, refl, is)
 
-depth_is : (a : Action) (k n : ℕ) → k < 4294967296 → operand_at a k ≡ Some n → depth_at a k ≡ Some n
+-- the temp at a position of 32 bits
+pub depth_is : (a : Action) (k n : ℕ) → k < 4294967296 → operand_at a k ≡ Some n → depth_at a k ≡ Some n
 depth_is a k n below is = rw (lt-ltb k 4294967296 below) is
 
 pub operand_of_fact : (p : Program) (h : HeapContents) (m : MethodId) (l : Locals) (a : Action) (o k : ℕ) (held : PlaceSet) → IsSmallAction p a → k < 4294967296

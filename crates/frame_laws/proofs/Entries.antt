@@ -25,12 +25,12 @@ use Rattle.program_model.specs.Validity.{HasParameters, IsBodyOf, OwnsBody}
 use Rattle.ledger_steps.specs.MustCallSets.{fits, must_of}
 use Rattle.agreement.specs.OverrideCases.{differ, has_other_owning}
 use Rattle.java_control.specs.Control.{start_of}
-use Rattle.java_control.specs.declared.fact.Fact.{Fact}
-use Rattle.java_control.specs.declared.fact.Mode.TheVariants as modes
-use Rattle.java_control.specs.declared.fact.Origin.{Origin}
-use Rattle.java_control.specs.declared.fact.OriginKind.TheVariants as kinds
-use Rattle.java_control.specs.declared.place.Place.{Place}
-use Rattle.java_control.specs.declared.place.Place.TheVariants as places
+use Rattle.control_actions.specs.declared.fact.Fact.{Fact}
+use Rattle.control_actions.specs.declared.fact.Mode.TheVariants as modes
+use Rattle.control_actions.specs.declared.fact.Origin.{Origin}
+use Rattle.control_actions.specs.declared.fact.OriginKind.TheVariants as kinds
+use Rattle.control_actions.specs.declared.place.Place.{Place}
+use Rattle.control_actions.specs.declared.place.Place.TheVariants as places
 use Rattle.java_control.specs.Remaining.{Todo}
 use Rattle.ownership_rules.specs.Births.{births_at_entry, entry_births_in, entry_births_of, fact_at, held_births, origin_of, parameter_birth, parameter_births, this_birth}
 use Rattle.ownership_rules.specs.Room.{variables_in}

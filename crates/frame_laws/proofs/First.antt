@@ -16,10 +16,10 @@ use Rattle.java_control.specs.Completions.{at_catch, at_loop, at_supp, ends, out
 use Rattle.java_control.specs.Control.{Step, control_place, expression_ways, for_ways, loop_ways, next_of, statement_ways, step_at, steps_in, ways}
 use Rattle.java_control.specs.Exceptions.{action_ways, caught, clauses_in, enters, exceptions_of, may_take, takes_wholly, throws}
 use Rattle.java_control.specs.Remaining.{Todo, Do, Ev, Act, NullFork, BoolFork, LoopEnd, For, Catch, Supp, Out, Ended, Way}
-use Rattle.java_control.specs.declared.action.Action.{Action}
-use Rattle.java_control.specs.declared.action.Action.TheVariants as actions
-use Rattle.java_control.specs.declared.action.Completion.{Completion}
-use Rattle.java_control.specs.declared.action.Completion.TheVariants as completions
+use Rattle.control_actions.specs.declared.action.Action.{Action}
+use Rattle.control_actions.specs.declared.action.Action.TheVariants as actions
+use Rattle.control_actions.specs.declared.action.Completion.{Completion}
+use Rattle.control_actions.specs.declared.action.Completion.TheVariants as completions
 use Rattle.ledger_state.specs.Contents.{HeapContents}
 use Rattle.ledger_state.specs.declared.array.ArrayObject.{ArrayObject}
 use Rattle.ledger_state.specs.declared.locals.Locals.{Locals}

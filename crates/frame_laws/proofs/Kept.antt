@@ -10,8 +10,8 @@ use Rattle.program_model.specs.declared.tree.Body.{Body}
 use Rattle.program_model.specs.Lookups.{method_at}
 use Rattle.fact_laws.specs.Assigned.{is_spoken_variable}
 use Rattle.java_control.specs.Control.{Step}
-use Rattle.java_control.specs.declared.place.Place.{Place}
-use Rattle.java_control.specs.declared.place.Place.TheVariants as places
+use Rattle.control_actions.specs.declared.place.Place.{Place}
+use Rattle.control_actions.specs.declared.place.Place.TheVariants as places
 use Rattle.ownership_rules.specs.Room.{variables_in}
 use Rattle.fact_laws.specs.Paths.{move_of}
 use Rattle.fact_laws.specs.Accept.{Accept}

@@ -17,11 +17,11 @@ use Rattle.program_model.specs.declared.tree.Body.{Body}
 use Rattle.program_model.specs.declared.tree.Var.{Var}
 use Rattle.program_model.specs.Lookups.{body_at, method_at, optional, variable_at}
 use Rattle.java_control.specs.PlaceNumbers.{number_of}
-use Rattle.java_control.specs.declared.fact.Fact.{Fact}
-use Rattle.java_control.specs.declared.fact.Mode.TheVariants as modes
-use Rattle.java_control.specs.declared.fact.Origin.{Origin}
-use Rattle.java_control.specs.declared.fact.OriginKind.TheVariants as kinds
-use Rattle.java_control.specs.declared.place.Place.TheVariants as places
+use Rattle.control_actions.specs.declared.fact.Fact.{Fact}
+use Rattle.control_actions.specs.declared.fact.Mode.TheVariants as modes
+use Rattle.control_actions.specs.declared.fact.Origin.{Origin}
+use Rattle.control_actions.specs.declared.fact.OriginKind.TheVariants as kinds
+use Rattle.control_actions.specs.declared.place.Place.TheVariants as places
 use Rattle.ownership_rules.specs.Births.{Birth, births_at_entry, born, born_in, class_of, entry_births_in, entry_births_of, fact_at, has_this, held_births, origin_of, parameter_birth, parameter_births, parameter_mode, this_birth, this_mode}
 use Rattle.ownership_rules.specs.Bodies.{fields_of}
 use Rattle.ownership_rules.specs.Facts.{is_own, position_of}

@@ -1,9 +1,9 @@
 -- What runs of the library at a call that names a method of the library itself, or one of the program.
-use Rattle.std.proofs.Common.{◌≡◌, ◌∙◌, ◌⊎◌, inl, inr, ap, refl, sym, subst, true≢false, ℕ, Bool, true, false, ◌&&◌, Option, Some, None, List}
+use Rattle.std.proofs.Common.{◌≡◌, ◌∙◌, inl, inr, ap, refl, sym, subst, true≢false, Bool, true, false, ◌&&◌, Option, Some, None}
 use Rattle.std.specs.List.{All}
 use Rattle.std.specs.Prelude.{not}
 use Rattle.std.specs.FinSet as set
-use Rattle.std.proofs.lemmas.Bool.{and_from, not-false}
+use Rattle.std.proofs.lemmas.Bool.{and_from}
 use Rattle.program_model.specs.declared.kinds.ClassId.{ClassId}
 use Rattle.program_model.specs.declared.kinds.MethodId.{MethodId}
 use Rattle.program_model.specs.declared.kinds.MethodKind.{MethodKind}
@@ -17,7 +17,7 @@ use Rattle.program_model.specs.Lookups.{method_at}
 use Rattle.program_model.specs.Validity.{is_class_type}
 use Rattle.ownership_rules.specs.Bodies.{constructs, is_constructor_kind}
 use Rattle.ownership_rules.specs.MustCallSets.{must_of, must_of_optional}
-use Rattle.ownership_rules.specs.OverrideCases.{differ, has_wider_result}
+use Rattle.ownership_rules.specs.OverrideCases.{differ}
 use Rattle.ownership_rules.specs.Signatures.{is_present}
 use Rattle.stub_conduct.specs.declared.choice.Conduct.{Conduct}
 use Rattle.stub_conduct.specs.declared.choice.Conduct.TheVariants as conducts

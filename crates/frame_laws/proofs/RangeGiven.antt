@@ -10,8 +10,8 @@ use Rattle.program_model.specs.declared.kinds.VType.TheVariants as types
 use Rattle.program_model.specs.declared.program.Method.{Method}
 use Rattle.program_model.specs.declared.program.Program.{Program}
 use Rattle.program_model.specs.Lookups.{method_at}
-use Rattle.java_control.specs.declared.action.Action.{Action}
-use Rattle.java_control.specs.declared.action.Action.TheVariants as actions
+use Rattle.control_actions.specs.declared.action.Action.{Action}
+use Rattle.control_actions.specs.declared.action.Action.TheVariants as actions
 use Rattle.ledger_steps.specs.Bodies.{constructs, is_constructor_kind}
 use Rattle.stub_conduct.specs.Conducts.{beyond, by_way, conduct, conduct_in, existing_way, given, given_result, null_way, plain, throw_or, thrown}
 use Rattle.stub_conduct.specs.declared.choice.Choice.{Choice}

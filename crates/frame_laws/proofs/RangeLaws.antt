@@ -12,9 +12,9 @@ use Rattle.std.proofs.Common.{arith}
 use Rattle.ledger_steps.specs.Bodies.{constructs}
 use Rattle.java_control.specs.Calls.{called_method}
 use Rattle.java_control.specs.Control.{Step}
-use Rattle.java_control.specs.declared.action.Action.{Action}
-use Rattle.java_control.specs.declared.action.Action.TheVariants as actions
-use Rattle.java_control.specs.declared.action.Completion.{Completion}
+use Rattle.control_actions.specs.declared.action.Action.{Action}
+use Rattle.control_actions.specs.declared.action.Action.TheVariants as actions
+use Rattle.control_actions.specs.declared.action.Completion.{Completion}
 use Rattle.fact_laws.specs.Accept.{Accept}
 use Rattle.fact_laws.specs.Paths.{move_of}
 use Rattle.fact_laws.specs.Naming.{IsOfItsKind}

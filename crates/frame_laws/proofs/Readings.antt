@@ -9,9 +9,9 @@ use Rattle.program_model.specs.declared.program.Program.{Program}
 use Rattle.ledger_steps.specs.Bodies.{reset_in}
 use Rattle.ledger_steps.specs.MustCallSets.{must_of}
 use Rattle.java_control.specs.Control.{Step}
-use Rattle.java_control.specs.declared.action.Action.{Action}
-use Rattle.java_control.specs.declared.fact.Fact.{Fact}
-use Rattle.java_control.specs.declared.fact.Origin.{Origin}
+use Rattle.control_actions.specs.declared.action.Action.{Action}
+use Rattle.control_actions.specs.declared.fact.Fact.{Fact}
+use Rattle.control_actions.specs.declared.fact.Origin.{Origin}
 use Rattle.ownership_rules.specs.Callees.{callee}
 use Rattle.ledger_state.specs.Contents.{HeapContents}
 use Rattle.ledger_state.specs.Heaps.{root_of, same_root}

@@ -7,8 +7,8 @@ use Rattle.program_model.specs.Lookups.{method_at}
 use Rattle.rlc_base.specs.declared.place.Pos.{Pos}
 use Rattle.java_control.specs.Calls.{called_method}
 use Rattle.java_control.specs.Control.{Step}
-use Rattle.java_control.specs.declared.action.Edge.{Edge}
-use Rattle.java_control.specs.declared.action.Edge.TheVariants as edges
+use Rattle.control_actions.specs.declared.action.Edge.{Edge}
+use Rattle.control_actions.specs.declared.action.Edge.TheVariants as edges
 use Rattle.ledger_steps.specs.LedgerCallsCalls.{is_stray_from, leaves_by}
 use Rattle.ledger_moves.specs.Configuration.{Frame}
 use Rattle.ledger_moves.specs.Choosing.{frame_steps, goes_by, same_edge}

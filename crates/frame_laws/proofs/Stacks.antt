@@ -7,15 +7,15 @@ use Rattle.program_model.specs.declared.program.Program.{Program}
 use Rattle.program_model.specs.Lookups.{method_at}
 use Rattle.ledger_steps.specs.Bodies.{constructs}
 use Rattle.ledger_steps.specs.MustCallSets.{must_of}
-use Rattle.java_control.specs.declared.action.Action.{Action}
-use Rattle.java_control.specs.declared.action.Action.TheVariants as actions
+use Rattle.control_actions.specs.declared.action.Action.{Action}
+use Rattle.control_actions.specs.declared.action.Action.TheVariants as actions
 use Rattle.ownership_rules.specs.MovesAtReturns.{result_in}
 use Rattle.ledger_state.specs.Contents.{HeapContents}
 use Rattle.ledger_state.specs.Heaps.{next_number, object_at}
 use Rattle.ledger_state.specs.declared.object.Object.{Object}
 use Rattle.ledger_state.specs.declared.value.Value.{Value}
 use Rattle.ledger_moves.specs.Configuration.{Frame}
-use Rattle.agreement.specs.Agreement.{Awaits, IsAwaited, IsCalledFrom, IsMade, IsMadeAfter, IsMadeBy, IsTracked, RunsItself, RunsOnSame, Tracks, WaitsFor}
+use Rattle.agreement.specs.Agreement.{Awaits, IsAwaited, IsCalledFrom, IsMade, IsMadeAfter, IsMadeByNew, IsTracked, RunsItself, RunsOnSame, Tracks, WaitsFor}
 use Rattle.agreement.specs.PlainForms.{MayRun}
 
 -- the objects of the first heap have the same classes in the second
@@ -29,7 +29,7 @@ module _ (p : Program) (h k : HeapContents) (keeps : KeepsClasses h k) where
       let count = keeps.count in
       (made.0, made.1, omega (arith, made.2, count), λ y at. let x = keeps.class made.0 y at made.2 in made.3 x.0 x.1 ∙ ap Some (sym x.2), made.4)
 
-  made_by_on : (a : Action) (v : Value) → IsMadeBy p h a v → IsMadeBy p k a v
+  made_by_on : (a : Action) (v : Value) → IsMadeByNew p h a v → IsMadeByNew p k a v
   made_by_on actions.Skip v made = tt
   made_by_on (actions.New m d n) v made = made_on m v made
   made_by_on a v made = tt
@@ -45,7 +45,7 @@ module _ (p : Program) (h k : HeapContents) (keeps : KeepsClasses h k) where
     itself = subst (RunsItself w.step.action w.named) (sym method) w.itself;
     kind = ap (λ (m : MethodId). constructs (method_at p m)) method ∙ w.kind;
     on_same = subst (RunsOnSame w.step.action caller.locals.this) (sym this) w.on_same;
-    makes = subst (IsMadeBy p k w.step.action) (sym this) (made_by_on w.step.action fr.locals.this w.makes);
+    makes = subst (IsMadeByNew p k w.step.action) (sym this) (made_by_on w.step.action fr.locals.this w.makes);
     after = subst (IsMadeAfter p caller.locals w.step.action) (sym this) w.after;
   }
 

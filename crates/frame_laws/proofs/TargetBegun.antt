@@ -13,9 +13,9 @@ use Rattle.program_model.specs.Lookups.{body_at, method_at}
 use Rattle.program_model.specs.Validity.{OwnsBody}
 use Rattle.java_control.specs.Calls.{called_method, temp_at}
 use Rattle.java_control.specs.Control.{Step, next_of}
-use Rattle.java_control.specs.declared.action.Action.{Action}
-use Rattle.java_control.specs.declared.action.Action.TheVariants as actions
-use Rattle.java_control.specs.declared.action.TargetForm.TheVariants as forms
+use Rattle.control_actions.specs.declared.action.Action.{Action}
+use Rattle.control_actions.specs.declared.action.Action.TheVariants as actions
+use Rattle.control_actions.specs.declared.action.TargetForm.TheVariants as forms
 use Rattle.ownership_rules.specs.SmallActions.{IsSmallAction}
 use Rattle.fact_laws.specs.Accept.{Accept}
 use Rattle.fact_laws.specs.Paths.{move_of, on, relation_of, start}

@@ -10,9 +10,9 @@ use Rattle.java_control.specs.Control.{Step, next_of, start_of}
 use Rattle.java_control.specs.Remaining.{Todo}
 use Rattle.java_cfg.specs.Graphs.{IsGraphOf}
 use Rattle.java_cfg.specs.declared.arc.Arc.{Arc}
-use Rattle.java_control.specs.declared.fact.Fact.{Fact}
-use Rattle.java_control.specs.declared.fact.Origin.{Origin}
-use Rattle.java_control.specs.declared.fact.Rule.{Rule}
+use Rattle.control_actions.specs.declared.fact.Fact.{Fact}
+use Rattle.control_actions.specs.declared.fact.Origin.{Origin}
+use Rattle.control_actions.specs.declared.fact.Rule.{Rule}
 use Rattle.java_cfg.specs.Facts.{Names}
 use Rattle.body_origins.specs.Births.{births_of_step}
 use Rattle.body_origins.specs.Flow.{flow}

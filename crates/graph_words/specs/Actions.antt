@@ -4,9 +4,9 @@ use Rattle.program_model.specs.declared.kinds.ClassId.{ClassId}
 use Rattle.program_model.specs.declared.program.Program.{Program}
 use Rattle.program_model.specs.declared.tree.Body.{Body}
 use Rattle.program_texts.specs.Texts.{field_text}
-use Rattle.java_control.specs.declared.action.Action.{Action}
-use Rattle.java_control.specs.declared.action.Action.TheVariants as actions
-use Rattle.java_control.specs.declared.action.ClauseId.{ClauseId}
+use Rattle.control_actions.specs.declared.action.Action.{Action}
+use Rattle.control_actions.specs.declared.action.Action.TheVariants as actions
+use Rattle.control_actions.specs.declared.action.ClauseId.{ClauseId}
 use Rattle.graph_words.specs.Names.{class_word, method_word, statement_word, type_word, variable_word}
 use Rattle.graph_words.specs.Operators.{form_word, operator_word}
 use Rattle.graph_words.specs.Places.{completion_word, place_word, plain_word, scope_word}

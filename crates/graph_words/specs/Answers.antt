@@ -8,7 +8,7 @@ use Rattle.program_texts.specs.Texts.{line_text}
 use Rattle.rlc_base.specs.Codes.{number_of}
 use Rattle.rlc_base.specs.declared.faults.Refusal.{Refusal}
 use Rattle.rlc_base.specs.declared.faults.Stop.TheVariants as stops
-use Rattle.java_control.specs.Remaining.{Todo}
+use Rattle.control_actions.specs.Remaining.{Todo}
 use Rattle.java_cfg.specs.Graphs.{IsGraphOf}
 use Rattle.java_cfg.specs.Limits.{IsCause}
 use Rattle.java_cfg.specs.declared.arc.Arc.{Arc}

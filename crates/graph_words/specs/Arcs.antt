@@ -4,8 +4,8 @@ use Rattle.std.specs.List.{flat_map}
 use Rattle.program_model.specs.declared.program.Program.{Program}
 use Rattle.program_model.specs.declared.tree.Body.{Body}
 use Rattle.program_texts.specs.Texts.{line_text}
-use Rattle.java_control.specs.declared.action.Edge.{Edge}
-use Rattle.java_control.specs.declared.action.Edge.TheVariants as edges
+use Rattle.control_actions.specs.declared.action.Edge.{Edge}
+use Rattle.control_actions.specs.declared.action.Edge.TheVariants as edges
 use Rattle.java_cfg.specs.declared.arc.Arc.{Arc}
 use Rattle.graph_words.specs.Actions.{action_word}
 use Rattle.graph_words.specs.Names.{class_word}

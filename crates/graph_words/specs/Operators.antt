@@ -8,10 +8,10 @@ use Rattle.program_model.specs.declared.kinds.UnaryOperator.{UnaryOperator}
 use Rattle.program_model.specs.declared.kinds.UnaryOperator.TheVariants as unary
 use Rattle.program_model.specs.declared.program.Program.{Program}
 use Rattle.program_texts.specs.Texts.{field_text}
-use Rattle.java_control.specs.declared.action.Operator.{Operator}
-use Rattle.java_control.specs.declared.action.Operator.TheVariants as operators
-use Rattle.java_control.specs.declared.action.TargetForm.{TargetForm}
-use Rattle.java_control.specs.declared.action.TargetForm.TheVariants as forms
+use Rattle.control_actions.specs.declared.action.Operator.{Operator}
+use Rattle.control_actions.specs.declared.action.Operator.TheVariants as operators
+use Rattle.control_actions.specs.declared.action.TargetForm.{TargetForm}
+use Rattle.control_actions.specs.declared.action.TargetForm.TheVariants as forms
 use Rattle.graph_words.specs.Names.{type_word}
 
 abbrev pub binary_word : BinaryOperator → List ℕ

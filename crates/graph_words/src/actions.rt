@@ -6,14 +6,14 @@ ghost use Rattle.graph_words.specs.Actions.{action_name, action_word, argument_l
 ghost use Rattle.graph_words.specs.Names.{method_word, type_word, variable_word};
 ghost use Rattle.graph_words.specs.Operators.{form_word};
 ghost use Rattle.graph_words.specs.Places.{completion_word, place_word, plain_word};
-ghost use Rattle.java_control.specs.declared.action.Action.TheVariants as actions;
+ghost use Rattle.control_actions.specs.declared.action.Action.TheVariants as actions;
 
 use crate::completions::put_completion;
 use crate::names::{class_word, put_method, put_statement, put_type, variable_word};
 use crate::operators::{form_word, put_operator};
 use crate::places::{put_place, put_scope};
 use crate::values::put_plain;
-use java_control::{Action, ClauseId, Completion, Place, PlainValue, TargetForm};
+use control_actions::{Action, ClauseId, Completion, Place, PlainValue, TargetForm};
 use program_model::{Body, ClassId, FieldId, MethodId, Program, VType};
 use program_texts::{put_field, put_number};
 use rlc_base::{NoMemory, Text};

@@ -6,8 +6,8 @@ ghost use Rattle.graph_words.specs.Arcs.{arc_count, arc_end, arc_line, arc_lines
 
 use crate::actions::put_action;
 use crate::names::class_word;
+use control_actions::Edge;
 use java_cfg::{Arc, Graph};
-use java_control::Edge;
 use program_model::{Body, Program};
 use program_texts::{put_line, put_number};
 use rlc_base::{NoMemory, Text};

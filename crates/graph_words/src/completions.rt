@@ -2,10 +2,10 @@
 
 ghost use Rattle.std.specs.Prelude.{◌≡◌, ◌++◌, OnOk};
 ghost use Rattle.graph_words.specs.Places.{at_place, completion_word};
-ghost use Rattle.java_control.specs.declared.action.Completion.TheVariants as completions;
+ghost use Rattle.control_actions.specs.declared.action.Completion.TheVariants as completions;
 
 use crate::names::class_word;
-use java_control::Completion;
+use control_actions::Completion;
 use program_model::{ClassId, Program};
 use program_texts::{put_line, put_number};
 use rlc_base::{NoMemory, Pos, Text};

@@ -3,10 +3,10 @@
 ghost use Rattle.std.specs.Prelude.{◌≡◌, ◌++◌, OnOk};
 ghost use Rattle.graph_words.specs.Names.{type_word};
 ghost use Rattle.graph_words.specs.Operators.{binary_word, form_word, operand_word, operator_word, unary_word};
-ghost use Rattle.java_control.specs.declared.action.Operator.TheVariants as operators;
+ghost use Rattle.control_actions.specs.declared.action.Operator.TheVariants as operators;
 
 use crate::names::put_type;
-use java_control::{Operator, TargetForm};
+use control_actions::{Operator, TargetForm};
 use program_model::{BinaryOperator, OperandType, Program, UnaryOperator, VType};
 use program_texts::put_field;
 use rlc_base::{NoMemory, Text};

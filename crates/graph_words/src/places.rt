@@ -4,7 +4,7 @@ ghost use Rattle.std.specs.Prelude.{◌≡◌, ◌++◌, OnOk};
 ghost use Rattle.graph_words.specs.Places.{place_word, scope_word, temp_word};
 
 use crate::names::{put_statement, variable_word};
-use java_control::{Place, Scope};
+use control_actions::{Place, Scope};
 use program_model::Body;
 use program_texts::put_number;
 use rlc_base::{NoMemory, Text};

@@ -4,7 +4,7 @@ ghost use Rattle.std.specs.Prelude.{◌≡◌, ◌++◌, OnOk};
 ghost use Rattle.graph_words.specs.Places.{literal_word, plain_word};
 
 use crate::names::{put_method, put_type};
-use java_control::PlainValue;
+use control_actions::PlainValue;
 use program_model::{Literal, Program};
 use program_texts::{put_field, put_number};
 use rlc_base::{NoMemory, Text};

@@ -12,9 +12,9 @@ use Rattle.program_model.specs.declared.program.ParamSig.{ParamSig}
 use Rattle.program_model.specs.declared.program.Program.{Program}
 use Rattle.program_model.specs.declared.program.Promise.{Promise}
 use Rattle.ledger_obligations.specs.MustCallSets.{Names}
-use Rattle.java_control.specs.declared.action.Action.{Action}
-use Rattle.java_control.specs.declared.action.TargetForm.{TargetForm}
-use Rattle.java_control.specs.declared.action.TargetForm.TheVariants as forms
+use Rattle.control_actions.specs.declared.action.Action.{Action}
+use Rattle.control_actions.specs.declared.action.TargetForm.{TargetForm}
+use Rattle.control_actions.specs.declared.action.TargetForm.TheVariants as forms
 use Rattle.stub_conduct.specs.declared.choice.Conduct.{Conduct}
 use Rattle.stub_conduct.specs.declared.choice.Conduct.TheVariants as conducts
 use Rattle.ledger_state.specs.Contents.{HeapContents}

@@ -18,13 +18,13 @@ use Rattle.ledger_obligations.specs.MustCallSets as sets
 use Rattle.ledger_obligations.specs.MustCallSets.{Names, fits, must_of}
 use Rattle.rlc_base.proofs.SetLaws.{within_self}
 use Rattle.std.specs.FinSet as set
-use Rattle.java_control.specs.declared.action.Action.{Action}
-use Rattle.java_control.specs.declared.action.Action.TheVariants as actions
+use Rattle.control_actions.specs.declared.action.Action.{Action}
+use Rattle.control_actions.specs.declared.action.Action.TheVariants as actions
 use Rattle.stub_conduct.specs.declared.choice.Choice.{Choice}
 use Rattle.stub_conduct.specs.declared.choice.Conduct.{Conduct}
 use Rattle.stub_conduct.specs.declared.choice.Conduct.TheVariants as conducts
 use Rattle.stub_conduct.specs.Conducts as stubs
-use Rattle.stub_conduct.specs.Conducts.{argument_or_null, beyond, by_way, candidates, class_of_number, class_or, conduct, conduct_in, existing, existing_class, existing_result, existing_way, given, given_result, instead, instead_result, is_stand_in, null_way, picked, plain, stand_ins, throw_or, thrown}
+use Rattle.stub_conduct.specs.Conducts.{argument_or_null, beyond, by_way, class_of_number, class_or, conduct, conduct_in, existing_class, existing_result, existing_way, given, given_result, instead_result, is_stand_in, null_way, picked, plain, stand_ins, throw_or, thrown}
 use Rattle.ledger_state.specs.Contents.{HeapContents}
 use Rattle.ledger_state.specs.declared.array.ArrayObject.{ArrayObject}
 use Rattle.ledger_state.specs.declared.value.Value.{Value}

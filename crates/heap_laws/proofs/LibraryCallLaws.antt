@@ -5,7 +5,7 @@ use Rattle.ledger_state.specs.declared.entry.Owner.TheVariants as owners
 use Rattle.std.specs.FinSet as set
 use Rattle.heap_laws.specs.Heaps.{Evolves, HasEarlierLinks, IsOlder}
 use Rattle.heap_laws.specs.Leading.{Leads, is_passed_on}
-use Rattle.java_control.specs.declared.action.Action.{Action}
+use Rattle.control_actions.specs.declared.action.Action.{Action}
 use Rattle.ledger_steps.specs.LedgerCallsCalls.{alias_position, operand_of, params_in, receiver_note, reset_position}
 use Rattle.ledger_steps.specs.Conducts.{promises_by}
 use Rattle.ledger_obligations.specs.Obligations.{has_note, may_move}

@@ -16,7 +16,7 @@ use Rattle.heap_laws.proofs.NoteCounts.{bit, bit_le, bit_lt, bit_small, sum_belo
 use Rattle.heap_laws.proofs.ObjectLaws.{in_range}
 use Rattle.heap_laws.proofs.Renewed.{roots_finished}
 use Rattle.heap_laws.proofs.RootLaws.{one_object, root_itself}
-use Rattle.heap_laws.proofs.WaysUp.{StepsUp, ends, finished_on_the_way, goes, one_holder, steps_up}
+use Rattle.heap_laws.proofs.WaysUp.{StepsUp, ends, finished_on_the_way, goes, steps_up}
 
 -- ---- lists of numbers
 

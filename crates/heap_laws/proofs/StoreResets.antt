@@ -13,11 +13,11 @@ use Rattle.ledger_state.specs.declared.entry.Owner.TheVariants as owners
 use Rattle.ledger_state.specs.declared.object.Object.{Object}
 use Rattle.ledger_state.specs.declared.value.Value.{Value}
 use Rattle.ledger_state.specs.declared.value.Value.TheVariants as values
-use Rattle.ledger_obligations.specs.Obligations.{finished_in, given_up, holder_roots, is_unmet, is_unmet_root, moved_in, moves_in, reached, reset_in, resets_holder, roots_where, stored_owning, with_owner}
+use Rattle.ledger_obligations.specs.Obligations.{finished_in, given_up, holder_roots, is_unmet, is_unmet_root, moved_in, moves_in, reached, reset_in, resets_holder, roots_where, stored_owning}
 use Rattle.ledger_state.specs.Heaps.{same_root}
 use Rattle.heap_laws.specs.Heaps.{Evolves, GoesOn, HasEarlierLinks}
 use Rattle.heap_laws.specs.Holders.{FieldsOwnOneMore, HoldersAreUnlinked, IsTested, IsWithin}
-use Rattle.heap_laws.specs.Stores.{IsDisplaced, IsMovedIn, IsStored}
+use Rattle.heap_laws.specs.Stores.{IsMovedIn, IsStored}
 use Rattle.heap_laws.proofs.HeapLaws.{evolving_heaps-links, roots_go_on-number}
 use Rattle.heap_laws.proofs.ObjectLaws.{changed_at, changed_count}
 use Rattle.heap_laws.proofs.ReachedRoots.{reached_begins, reached_goes_up, reached_is_above}

@@ -11,7 +11,7 @@ use Rattle.program_model.specs.declared.program.Method.{Method}
 use Rattle.program_model.specs.declared.program.ParamSig.{ParamSig}
 use Rattle.program_model.specs.declared.program.Program.{Program}
 use Rattle.ledger_obligations.specs.MustCallSets.{must_of, must_of_type}
-use Rattle.java_control.specs.declared.action.Action.{Action}
+use Rattle.control_actions.specs.declared.action.Action.{Action}
 use Rattle.stub_conduct.specs.declared.choice.Conduct.{Conduct}
 use Rattle.stub_conduct.specs.declared.choice.Conduct.TheVariants as conducts
 use Rattle.ledger_state.specs.Contents.{HeapContents}

@@ -1,5 +1,5 @@
 -- The ways up from objects to those whose fields own them: there is one way from each object, and how the ways change as a heap goes on.
-use Rattle.std.proofs.Common.{◌≡◌, ◌⊎◌, inl, inr, ℕ, Bool, true, false, Option, Some, None, refl, sym, ap, ◌∙◌, subst, true≢false}
+use Rattle.std.proofs.Common.{◌≡◌, ◌⊎◌, inl, inr, ℕ, Bool, true, false, Some, refl, sym, ap, ◌∙◌, subst, true≢false}
 use Rattle.program_model.specs.declared.kinds.FieldId.{FieldId}
 use Rattle.ledger_state.specs.Contents.{HeapContents}
 use Rattle.ledger_state.specs.Heaps.{object_at}
@@ -103,10 +103,6 @@ has_holders_top h o v e f x at owned top = record { within = by_field o v e f x 
 -- an object that no field owns is its own top
 pub own_top : (h : HeapContents) (o : ℕ) (x : Object) → object_at h o ≡ Some x → is_field_owner x.owner ≡ false → HasTop h o o
 own_top h o x at none = record { within = itself o; object = x; at = at; unheld = none }
-
--- what has another top than an object is not within it
-pub apart_by_tops : (h : HeapContents) (o w a b : ℕ) → HasTop h o a → HasTop h w b → (a ≡ b → ⊥) → IsWithin h o w → ⊥
-apart_by_tops h o w a b first second other up = other (one_top h w a b (within_top h o w a first up) second)
 
 -- ---- what is finished
 

@@ -11,7 +11,7 @@ ghost use Rattle.program_model.specs.declared.program.Method.{Method};
 ghost use Rattle.program_model.specs.declared.program.ParamSig.{ParamSig};
 ghost use Rattle.program_model.specs.declared.program.Program.{Program};
 ghost use Rattle.program_model.specs.declared.program.Promise.{Promise};
-ghost use Rattle.java_control.specs.declared.action.Action.{Action};
+ghost use Rattle.control_actions.specs.declared.action.Action.{Action};
 ghost use Rattle.stub_conduct.specs.declared.choice.Conduct.{Conduct};
 ghost use Rattle.ledger_state.specs.Contents.{HeapContents};
 ghost use Rattle.ledger_state.specs.Fields.{field_of};

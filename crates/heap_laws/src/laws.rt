@@ -4,7 +4,7 @@ ghost use Rattle.std.specs.Prelude.{ℕ, List};
 ghost use Rattle.program_model.specs.declared.kinds.MethodId.{MethodId};
 ghost use Rattle.program_model.specs.declared.program.Program.{Program};
 ghost use Rattle.program_model.specs.Lookups.{method_at};
-ghost use Rattle.java_control.specs.declared.action.Action.{Action};
+ghost use Rattle.control_actions.specs.declared.action.Action.{Action};
 ghost use Rattle.stub_conduct.specs.declared.choice.Choice.{Choice};
 ghost use Rattle.ledger_state.specs.Contents.{HeapContents};
 ghost use Rattle.ledger_state.specs.declared.array.ArrayObject.{ArrayObject};

@@ -1,13 +1,13 @@
 pub mod Bodies
-pub mod SuperCalls
-pub use Rattle.body_variables.specs.BodyVariables
-pub use Rattle.class_declarations.specs.Members as ClassDeclarationsMembers
-pub use Rattle.body_variables.specs.Declarations
-pub use Rattle.field_initializers.specs.FieldConstants
-pub use Rattle.field_initializers.specs.FieldInitializers
-pub use Rattle.field_initializers.specs.Parameters
-pub use Rattle.field_initializers.specs.SourceClasses
-pub use Rattle.field_initializers.specs.SourceClassesMembers
+pub use Rattle.declared_bodies.specs.BodyVariables
+pub use Rattle.declared_bodies.specs.ClassDeclarationsMembers
+pub use Rattle.declared_bodies.specs.Declarations
+pub use Rattle.declared_bodies.specs.FieldConstants
+pub use Rattle.declared_bodies.specs.FieldInitializers
+pub use Rattle.declared_bodies.specs.Parameters
+pub use Rattle.declared_bodies.specs.SourceClasses
+pub use Rattle.declared_bodies.specs.SourceClassesMembers
+pub use Rattle.declared_bodies.specs.SuperCalls
 pub use Rattle.java_typed_statements.specs.StatementCases
 pub use Rattle.java_typed_statements.specs.StatementCompletions
 pub use Rattle.java_typed_statements.specs.StatementContexts

@@ -3,17 +3,14 @@
 ghost use Rattle.std.specs.Prelude.{◌≡◌, ◌++◌, IfOk, OnOk, length, map};
 ghost use Rattle.java_typed_trees.specs.StatementTrees.{statement_of};
 ghost use Rattle.java_typed_statements.specs.Scopes.{context_at};
-ghost use Rattle.body_variables.specs.Declarations.{variable_in};
-ghost use Rattle.field_initializers.specs.SourceClassesMembers.{environment_in};
-ghost use Rattle.java_bodies.specs.Bodies.{body_cases, body_context, body_trees, body_variables_in, has_this, initialized_in, locals_in, source_body_of};
+ghost use Rattle.declared_bodies.specs.SourceClassesMembers.{environment_in};
+ghost use Rattle.declared_bodies.specs.Bodies.{has_this, initialized_in, locals_in, source_body_of};
+ghost use Rattle.java_bodies.specs.Bodies.{body_cases, body_context, body_trees};
 
-use crate::declared_bodies::DeclaredBody;
-use crate::heads::push_head;
-use body_variables::variables_of_body;
-use field_initializers::{ProgramScope, parameters, surroundings_in};
+use declared_bodies::{DeclaredBody, ProgramScope, parameters, push_head};
 use java_typed_statements::{StatementScope, statements};
 use java_typed_trees::{Local, StatementTree};
-use program_model::{ClassId, MethodKind, Var};
+use program_model::{ClassId, MethodKind};
 use rlc_base::{NoMemory, Refusal};
 use std::alloc::Global;
 
@@ -103,28 +100,4 @@ pub fn body_statements(
         &mut trees,
     )?;
     Ok(trees)
-}
-
-/// The table of the body's variables, in the order of the text. One whose type is refused is left out.
-///
-/// # Errors
-///
-/// Memory may run out.
-pub fn variable_table(
-    alloc: Global,
-    scope: &ProgramScope,
-    b: &DeclaredBody,
-) -> Result<Vec<Var>, NoMemory>
-    ensures { IfOk result (λ v. map variable_in v.items ≡ body_variables_in (environment_in scope.now) (source_body_of b.now)) }
-{
-    let inner = surroundings_in(scope, &b.class, false, None, &[], &[]);
-    let written = &b.body;
-    let signature = &b.signature.sig.params;
-    variables_of_body(
-        alloc,
-        &inner,
-        written.parameters,
-        signature,
-        written.statements,
-    )
 }

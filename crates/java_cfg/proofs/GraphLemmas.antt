@@ -7,8 +7,8 @@ use Rattle.std.proofs.lemmas.List.Elements.{All-map, All-weaker, All-contains}
 use Rattle.std.proofs.lemmas.Option.{slice_get_within}
 use Rattle.program_model.specs.declared.kinds.BodyId.{BodyId}
 use Rattle.program_model.specs.declared.program.Program.{Program}
-use Rattle.java_control.specs.declared.cell.Cell.{Cell}
-use Rattle.java_control.specs.declared.triple.Triple.{Triple}
+use Rattle.control_actions.specs.declared.cell.Cell.{Cell}
+use Rattle.control_actions.specs.declared.triple.Triple.{Triple}
 use Rattle.java_control.specs.Changes.{step_in}
 use Rattle.java_control.specs.Control.{Step, next_of, start_of}
 use Rattle.java_control.specs.Remaining.{Todo}

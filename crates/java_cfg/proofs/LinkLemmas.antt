@@ -4,7 +4,7 @@ use Rattle.std.specs.Prelude.{slice_get, not, eqb, ◌||◌}
 use Rattle.std.specs.List.{AllZip, Contains, IsDistinct, list_any, position_or_len}
 use Rattle.std.proofs.lemmas.List.Elements.{All-append, All-weaker, Contains-append_left, Contains-append_right}
 use Rattle.std.proofs.lemmas.List.{take_more}
-use Rattle.java_control.specs.declared.triple.Triple.{Triple}
+use Rattle.control_actions.specs.declared.triple.Triple.{Triple}
 use Rattle.java_cfg.specs.declared.arc.Arc.{Arc}
 use Rattle.java_cfg.specs.Graphs.{numbers_in}
 use Rattle.java_cfg.specs.Order.{InOrder, counted}

@@ -6,14 +6,14 @@ use Rattle.std.proofs.lemmas.Bool.{cases_lt}
 use Rattle.std.proofs.lemmas.List.Elements.{All-get_or}
 use Rattle.std.proofs.lemmas.Map.Keys.{apart_from_distinct}
 use Rattle.std.proofs.lemmas.Option.{get_or_from_slice_get, slice_get_within}
-use Rattle.java_control.specs.declared.cell.Cell.{Cell}
-use Rattle.java_control.specs.declared.item.Item.{Item}
-use Rattle.java_control.specs.declared.item.Item.TheVariants as items
-use Rattle.java_control.specs.contracts.cell.CellPartialEq.TheImpl as cell_eq
-use Rattle.java_control.specs.contracts.cell.CellEq.TheImpl.Laws as cell_laws
+use Rattle.control_actions.specs.declared.cell.Cell.{Cell}
+use Rattle.control_actions.specs.declared.item.Item.{Item}
+use Rattle.control_actions.specs.declared.item.Item.TheVariants as items
+use Rattle.control_actions.specs.contracts.cell.CellPartialEq.TheImpl as cell_eq
+use Rattle.control_actions.specs.contracts.cell.CellEq.TheImpl.Laws as cell_laws
 use Rattle.java_control.specs.Remaining.{Todos, todos, nil, cons}
 use Rattle.java_control.specs.Tables.{highest, item_by, list_at, view_in, IsOrdered, Keeps}
-use Rattle.java_control.proofs.TableLemmas.{list_at_suc, list_at_zero}
+use Rattle.control_actions.proofs.TableLemmas.{list_at_suc, list_at_zero}
 use Rattle.java_cfg.specs.Reach.{AreOnce}
 use Rattle.java_cfg.specs.Tables.{control_at, controls}
 use Rattle.java_cfg.proofs.ListLemmas.{map_get, map_same, place_within}

@@ -12,8 +12,8 @@ use Rattle.rlc_base.specs.declared.faults.Stop.TheVariants as stops
 use Rattle.rlc_base.specs.declared.place.Pos.{Pos}
 use Rattle.program_model.specs.declared.kinds.BodyId.{BodyId}
 use Rattle.program_model.specs.declared.program.Program.{Program}
-use Rattle.java_control.specs.declared.cell.Cell.{Cell}
-use Rattle.java_control.specs.declared.triple.Triple.{Triple}
+use Rattle.control_actions.specs.declared.cell.Cell.{Cell}
+use Rattle.control_actions.specs.declared.triple.Triple.{Triple}
 use Rattle.java_control.specs.Changes.{highest_steps, step_in}
 use Rattle.java_control.specs.Control.{next_of, start_of}
 use Rattle.java_control.specs.Remaining.{Todo, todos}

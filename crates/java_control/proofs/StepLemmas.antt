@@ -1,28 +1,17 @@
--- Lemmas on lists that are put together, and on steps over a table that grows.
-use Rattle.std.proofs.Common.{◌≡◌, ◌∙◌, sym, ap, refl, subst, arith, ℕ, ◌+◌, ◌≤◌, zero, suc, max, List, [], ◌∷◌, ◌++◌, map, drop, length, append_assoc, append-nil, get_or, ◌<◌}
+-- Lemmas on steps over a table that grows.
+use Rattle.std.proofs.Common.{◌≡◌, ◌∙◌, sym, ap, refl, subst, arith, ℕ, ◌+◌, ◌≤◌, zero, suc, List, [], ◌∷◌, ◌++◌, map, drop, length, append_assoc, append-nil, get_or, ◌<◌}
 use Rattle.rlc_base.specs.declared.place.Pos.{Pos}
-use Rattle.java_control.specs.declared.cell.Cell.{Cell}
-use Rattle.java_control.specs.declared.item.Item.{Item}
-use Rattle.java_control.specs.declared.change.Front.{Front}
-use Rattle.java_control.specs.declared.change.Change.{Change}
-use Rattle.java_control.specs.declared.triple.Triple.{Triple}
-use Rattle.java_control.specs.Remaining.{Todo, todos, nil, cons}
-use Rattle.java_control.specs.Tables.{bare, highest, highest_of, view_in, list_at, Keeps}
+use Rattle.control_actions.specs.declared.cell.Cell.{Cell}
+use Rattle.control_actions.specs.declared.item.Item.{Item}
+use Rattle.expression_control.specs.declared.change.Front.{Front}
+use Rattle.expression_control.specs.declared.change.Change.{Change}
+use Rattle.control_actions.specs.declared.triple.Triple.{Triple}
+use Rattle.control_actions.specs.Remaining.{Todo, todos, nil}
+use Rattle.control_actions.specs.Tables.{bare, highest_of, view_in, list_at, Keeps}
 use Rattle.java_control.specs.Changes.{front_in, highest_front, seen, highest_changes, highest_steps, step_in}
 use Rattle.java_control.specs.Becoming.{step_of}
-use Rattle.java_control.proofs.FlatLemmas.{drop_at}
-use Rattle.java_control.proofs.TableLemmas.{bare_in, view_kept, views_kept}
-
--- one more item in front of what was put in before
-pub pushed_more : (old mid new : List Cell) (x : Item) (rest : List Item) (tail behind id : ℕ) → Keeps old mid → highest x ≤ length old → list_at new id ≡ cons (view_in mid x) (list_at mid behind) → todos (list_at mid behind) ≡ map (view_in old) rest ++ todos (list_at old tail) → todos (list_at new id) ≡ (view_in old x ∷ map (view_in old) rest) ++ todos (list_at old tail)
-pushed_more old mid new x rest tail behind id kept small is before =
-    let item = view_kept old mid x kept small in
-    ap todos is ∙ (λ i. item i ∷ before i)
-
-pub appended_more : (old mid new : List Cell) (c : Cell) (front tail behind id : ℕ) → Keeps old mid → max (highest c.item) c.tail ≤ length old → list_at old front ≡ cons (view_in old c.item) (list_at old c.tail) → list_at new id ≡ cons (view_in mid c.item) (list_at mid behind) → todos (list_at mid behind) ≡ todos (list_at old c.tail) ++ todos (list_at old tail) → todos (list_at new id) ≡ todos (list_at old front) ++ todos (list_at old tail)
-appended_more old mid new c front tail behind id kept small first is before =
-    let item = view_kept old mid c.item kept (omega arith) in
-    ap todos is ∙ (λ i. item i ∷ before i) ∙ ap (λ x. todos x ++ todos (list_at old tail)) (sym first)
+use Rattle.control_actions.proofs.PushLemmas.{drop_at}
+use Rattle.control_actions.proofs.TableLemmas.{bare_in, views_kept}
 
 -- a front means the same in a table that keeps its lists
 pub front_kept : (old new : List Cell) (f : Front) → Keeps old new → highest_front f ≤ length old → front_in new f ≡ front_in old f

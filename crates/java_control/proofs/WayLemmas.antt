@@ -11,15 +11,15 @@ use Rattle.program_model.specs.declared.tree.TExpr.{TExpr}
 use Rattle.program_model.specs.declared.tree.TStmt.{TStmt}
 use Rattle.program_model.specs.Lookups.{statement_at, expression_at}
 use Rattle.rlc_base.specs.declared.place.Pos.{Pos}
-use Rattle.java_control.specs.declared.action.Action.{Action}
-use Rattle.java_control.specs.declared.action.Action.TheVariants as actions
-use Rattle.java_control.specs.declared.action.Completion.{Completion}
-use Rattle.java_control.specs.declared.action.Completion.TheVariants as completions
-use Rattle.java_control.specs.declared.action.Edge.TheVariants as edges
+use Rattle.control_actions.specs.declared.action.Action.{Action}
+use Rattle.control_actions.specs.declared.action.Action.TheVariants as actions
+use Rattle.control_actions.specs.declared.action.Completion.{Completion}
+use Rattle.control_actions.specs.declared.action.Completion.TheVariants as completions
+use Rattle.control_actions.specs.declared.action.Edge.TheVariants as edges
 use Rattle.java_control.specs.Completions.{at_catch, at_loop, at_supp, ends, out}
 use Rattle.java_control.specs.Control.{statement_ways, expression_ways, loop_ways, for_ways, ways, control_place, step_at, steps_of}
 use Rattle.java_control.specs.Exceptions.{caught, clauses_in, enters, exceptions_of, goes_on, may_take, takes_wholly, throws}
-use Rattle.java_control.specs.Remaining.{Todo, Do, Ev, Act, Cond, NullFork, BoolFork, LoopEnd, For, Leave, Catch, Fin, Close, Finish, Supp, Out, Ended, way}
+use Rattle.control_actions.specs.Remaining.{Todo, Do, Ev, Act, Cond, NullFork, BoolFork, LoopEnd, For, Leave, Catch, Fin, Close, Finish, Supp, Out, Ended, way}
 use Rattle.java_control.specs.Becoming.{becomes, completion_becomes, statement_becomes, expression_becomes, loop_becomes, for_becomes, loop_change, catch_change, catch_changes, supp_change, alone, entry, go_change, throw_change, step_of}
 
 thrown_split : (a : Action) (pos at : Pos) (x : Todo) (k : List Todo) (cs : List ClassId) → map (step_of at (x ∷ k)) (map (throw_change a pos) cs) ≡ map (step_at at) (map (throws a pos k) cs)

@@ -11,20 +11,20 @@ use Rattle.program_model.specs.declared.tree.TExpr.{TExpr}
 use Rattle.program_model.specs.declared.tree.TStmt.{TStmt}
 use Rattle.program_model.specs.Lookups.{statement_at, expression_at}
 use Rattle.rlc_base.specs.declared.place.Pos.{Pos}
-use Rattle.java_control.specs.declared.action.Action.{Action}
-use Rattle.java_control.specs.declared.action.Action.TheVariants as actions
-use Rattle.java_control.specs.declared.action.Completion.{Completion}
-use Rattle.java_control.specs.declared.action.Completion.TheVariants as completions
-use Rattle.java_control.specs.declared.action.Edge.TheVariants as edges
-use Rattle.java_control.specs.declared.action.Scope.TheVariants as scopes
+use Rattle.control_actions.specs.declared.action.Action.{Action}
+use Rattle.control_actions.specs.declared.action.Action.TheVariants as actions
+use Rattle.control_actions.specs.declared.action.Completion.{Completion}
+use Rattle.control_actions.specs.declared.action.Completion.TheVariants as completions
+use Rattle.control_actions.specs.declared.action.Edge.TheVariants as edges
+use Rattle.control_actions.specs.declared.action.Scope.TheVariants as scopes
 use Rattle.java_control.specs.Changes.{Becomes, change}
 use Rattle.java_control.specs.Completions.{at_depth}
-use Rattle.java_control.specs.Conditions.{condition_front}
+use Rattle.expression_control.specs.Conditions.{condition_front}
 use Rattle.java_control.specs.Control.{Step}
 use Rattle.java_control.specs.Exceptions.{clause_at, clauses_in, exception_depth, exceptions_of, may_take, takes_wholly}
-use Rattle.java_control.specs.Expressions.{expression_front}
+use Rattle.expression_control.specs.Expressions.{expression_front}
 use Rattle.java_control.specs.Statements.{close_front, for_turn, loop_turn, statement_front}
-use Rattle.java_control.specs.Remaining.{Todo, Todos, Do, Ev, Act, Cond, NullFork, BoolFork, LoopEnd, For, Leave, Catch, Fin, Close, Finish, Supp, Out, Ended, todos, statement_place}
+use Rattle.control_actions.specs.Remaining.{Todo, Todos, Do, Ev, Act, Cond, NullFork, BoolFork, LoopEnd, For, Leave, Catch, Fin, Close, Finish, Supp, Out, Ended, todos, statement_place}
 
 -- the first item gives way to others
 abbrev pub gives : List Todo → List Becomes

@@ -4,14 +4,14 @@ use Rattle.program_model.specs.declared.kinds.StmtId.{StmtId}
 use Rattle.program_model.specs.declared.program.Program.{Program}
 use Rattle.program_model.specs.declared.tree.Body.{Body}
 use Rattle.program_model.specs.Lookups.{statement_at}
-use Rattle.java_control.specs.declared.action.Action.TheVariants as actions
-use Rattle.java_control.specs.declared.action.Edge.TheVariants as edges
-use Rattle.java_control.specs.declared.action.Completion.{Completion}
-use Rattle.java_control.specs.declared.action.Completion.TheVariants as completions
-use Rattle.java_control.specs.declared.action.Scope.TheVariants as scopes
+use Rattle.control_actions.specs.declared.action.Action.TheVariants as actions
+use Rattle.control_actions.specs.declared.action.Edge.TheVariants as edges
+use Rattle.control_actions.specs.declared.action.Completion.{Completion}
+use Rattle.control_actions.specs.declared.action.Completion.TheVariants as completions
+use Rattle.control_actions.specs.declared.action.Scope.TheVariants as scopes
 use Rattle.java_control.specs.Statements.{close_front}
 use Rattle.java_control.specs.Exceptions.{caught, clauses_in}
-use Rattle.java_control.specs.Remaining.{Todo, Do, LoopEnd, Leave, Catch, Fin, Close, Finish, Supp, Out, Ended, Way, way, skip}
+use Rattle.control_actions.specs.Remaining.{Todo, Do, LoopEnd, Leave, Catch, Fin, Close, Finish, Supp, Out, Ended, Way, way, skip}
 
 -- the completion with its value in the temp of depth `b`
 abbrev pub at_depth : Completion → ℕ → Completion

@@ -9,17 +9,17 @@ use Rattle.program_model.specs.declared.tree.TExpr.{TExpr}
 use Rattle.program_model.specs.declared.tree.TStmt.{TStmt}
 use Rattle.program_model.specs.Lookups.{body_at, statement_at, expression_at}
 use Rattle.rlc_base.specs.declared.place.Pos.{Pos}
-use Rattle.java_control.specs.declared.action.Action.{Action}
-use Rattle.java_control.specs.declared.action.Action.TheVariants as actions
-use Rattle.java_control.specs.declared.action.Edge.{Edge}
-use Rattle.java_control.specs.declared.action.Edge.TheVariants as edges
-use Rattle.java_control.specs.declared.action.Completion.TheVariants as completions
-use Rattle.java_control.specs.Conditions.{condition_front}
-use Rattle.java_control.specs.Expressions.{expression_front}
+use Rattle.control_actions.specs.declared.action.Action.{Action}
+use Rattle.control_actions.specs.declared.action.Action.TheVariants as actions
+use Rattle.control_actions.specs.declared.action.Edge.{Edge}
+use Rattle.control_actions.specs.declared.action.Edge.TheVariants as edges
+use Rattle.control_actions.specs.declared.action.Completion.TheVariants as completions
+use Rattle.expression_control.specs.Conditions.{condition_front}
+use Rattle.expression_control.specs.Expressions.{expression_front}
 use Rattle.java_control.specs.Statements.{statement_front, for_turn, loop_turn, close_front, body_front}
 use Rattle.java_control.specs.Exceptions.{action_ways}
 use Rattle.java_control.specs.Completions.{ends, out}
-use Rattle.java_control.specs.Remaining.{Todo, Do, Ev, Act, Cond, NullFork, BoolFork, LoopEnd, For, Leave, Catch, Fin, Close, Finish, Supp, Out, Ended, Way, way, skip, todos, place_of}
+use Rattle.control_actions.specs.Remaining.{Todo, Do, Ev, Act, Cond, NullFork, BoolFork, LoopEnd, For, Leave, Catch, Fin, Close, Finish, Supp, Out, Ended, Way, way, skip, todos, place_of}
 
 -- a number that names no statement or expression gives nothing
 abbrev pub statement_ways : Body → StmtId → ℕ → Option TStmt → List Todo → List Way

@@ -18,17 +18,17 @@ use Rattle.program_model.specs.declared.tree.StatementKind.{StatementKind}
 use Rattle.program_model.specs.declared.tree.StatementKind.TheVariants as statements
 use Rattle.program_model.specs.Lookups.{statement_at, type_at, variable_type}
 use Rattle.rlc_base.specs.declared.place.Pos.{Pos}
-use Rattle.java_control.specs.declared.place.Place.TheVariants as places
-use Rattle.java_control.specs.declared.action.Action.TheVariants as actions
-use Rattle.java_control.specs.declared.action.Completion.TheVariants as completions
-use Rattle.java_control.specs.declared.action.PlainValue.TheVariants as plain
-use Rattle.java_control.specs.declared.action.TargetForm.TheVariants as forms
-use Rattle.java_control.specs.declared.action.Scope.TheVariants as scopes
-use Rattle.java_control.specs.declared.item.Closing.{Closing}
-use Rattle.java_control.specs.declared.item.Condition.{Condition}
-use Rattle.java_control.specs.declared.item.Condition.TheVariants as conditions
-use Rattle.java_control.specs.Expressions.{type_or_null, evaluations}
-use Rattle.java_control.specs.Remaining.{Todo, Todos, nil, Do, Ev, Act, Cond, NullFork, LoopEnd, For, Leave, Catch, Fin, Close, Out, one, two, cons, expression_place}
+use Rattle.control_actions.specs.declared.place.Place.TheVariants as places
+use Rattle.control_actions.specs.declared.action.Action.TheVariants as actions
+use Rattle.control_actions.specs.declared.action.Completion.TheVariants as completions
+use Rattle.control_actions.specs.declared.action.PlainValue.TheVariants as plain
+use Rattle.control_actions.specs.declared.action.TargetForm.TheVariants as forms
+use Rattle.control_actions.specs.declared.action.Scope.TheVariants as scopes
+use Rattle.control_actions.specs.declared.item.Closing.{Closing}
+use Rattle.control_actions.specs.declared.item.Condition.{Condition}
+use Rattle.control_actions.specs.declared.item.Condition.TheVariants as conditions
+use Rattle.expression_control.specs.Expressions.{type_or_null, evaluations}
+use Rattle.control_actions.specs.Remaining.{Todo, Todos, nil, Do, Ev, Act, Cond, NullFork, LoopEnd, For, Leave, Catch, Fin, Close, Out, one, two, cons, expression_place}
 
 -- a variable without an initialiser begins with its type's default value
 abbrev pub declarator_with : Body → ℕ → Option ExprId → ℕ → Pos → List Todo

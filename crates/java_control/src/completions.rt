@@ -5,20 +5,17 @@ ghost use Rattle.java_control.specs.Changes.{bare_change, front_in, highest_chan
 ghost use Rattle.java_control.specs.Becoming.{alone, catch_change, catch_changes, completion_becomes, entry, loop_change, moves, settled, supp_change};
 ghost use Rattle.java_control.specs.Completions.{at_depth};
 ghost use Rattle.java_control.specs.Exceptions.{clauses_of_kind};
-ghost use Rattle.java_control.specs.Remaining.{Out, Supp};
+ghost use Rattle.control_actions.specs.Remaining.{Out, Supp};
 ghost use Rattle.java_control.specs.Statements.{close_fork, close_front};
-ghost use Rattle.java_control.specs.declared.action.Action.TheVariants as actions;
-ghost use Rattle.java_control.specs.declared.item.Item.TheVariants as items;
-ghost use Rattle.java_control.specs.declared.place.Place.TheVariants as places;
-ghost use Rattle.java_control.specs.Tables.{Keeps, bare, highest, highest_of, view_in};
+ghost use Rattle.control_actions.specs.declared.action.Action.TheVariants as actions;
+ghost use Rattle.control_actions.specs.declared.item.Item.TheVariants as items;
+ghost use Rattle.control_actions.specs.declared.place.Place.TheVariants as places;
+ghost use Rattle.control_actions.specs.Tables.{Keeps, bare, highest, highest_of, view_in};
 
-use crate::action::{Action, ClauseId, Completion, Edge, Scope, TargetForm};
-use crate::change::{Change, Front};
-use crate::fronts::{deeper, flat, front_of, one_way, put};
-use crate::item::{Closing, Item};
-use crate::lists::Lists;
-use crate::place::Place;
-use crate::places::statement_place;
+use control_actions::{
+    Action, ClauseId, Closing, Completion, Edge, Item, Lists, Place, Scope, TargetForm,
+};
+use expression_control::{Change, Front, deeper, flat, front_of, one_way, put, statement_place};
 use program_model::{Body, CatchClause, ClassId, Program, StatementKind, StmtId};
 use rlc_base::{NoMemory, Pos};
 use std::alloc::Global;
@@ -106,7 +103,7 @@ fn at_supp(
 }
 
 // Adds the way into a catch clause.
-#[tactic(auto, using(crate::proofs::FlatLemmas::changes_means, crate::proofs::FlatLemmas::changes_small))]
+#[tactic(auto, using(expression_control::proofs::FlatLemmas::changes_means, expression_control::proofs::FlatLemmas::changes_small))]
 fn add_entry(
     alloc: Global,
     changes: &mut Vec<Change>,
@@ -132,7 +129,7 @@ fn add_entry(
 }
 
 // Adds the way past the catch clauses.
-#[tactic(auto, using(crate::proofs::FlatLemmas::changes_means, crate::proofs::FlatLemmas::changes_small))]
+#[tactic(auto, using(expression_control::proofs::FlatLemmas::changes_means, expression_control::proofs::FlatLemmas::changes_small))]
 fn add_passage(alloc: Global, changes: &mut Vec<Change>, thrown: Completion) -> Result<(), NoMemory>
     ensures means { OnOk result (map bare_change changes.new.items ≡ map bare_change changes.old.items ++ moves (Out thrown ∷ [])) }
     ensures small { OnOk result (highest_changes changes.new.items ≡ highest_changes changes.old.items) }
@@ -273,7 +270,7 @@ fn at_close(
 }
 
 /// What a completion becomes, by the item behind it.
-#[tactic(auto, using(crate::proofs::FlatLemmas::changes_bare))]
+#[tactic(auto, using(expression_control::proofs::FlatLemmas::changes_bare))]
 pub fn completion_changes(
     alloc: Global,
     lists: &mut Lists,

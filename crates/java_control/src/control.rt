@@ -4,18 +4,15 @@ ghost use Rattle.std.specs.Prelude.{◌≡◌, ◌≤◌, map, length, slice_get
 ghost use Rattle.java_control.specs.Becoming.{step_of};
 ghost use Rattle.java_control.specs.Changes.{highest_changes, highest_first, highest_front, highest_steps, seen, step_in};
 ghost use Rattle.java_control.specs.Control.{control_place, next_of, start_of, steps_in, steps_of};
-ghost use Rattle.java_control.specs.Remaining.{todos};
+ghost use Rattle.control_actions.specs.Remaining.{todos};
 ghost use Rattle.java_control.specs.Statements.{body_front};
-ghost use Rattle.java_control.specs.Tables.{Keeps, bare, highest_of, list_at, view_in};
+ghost use Rattle.control_actions.specs.Tables.{Keeps, bare, highest_of, list_at, view_in};
 ghost use Rattle.program_model.specs.Lookups.{body_at};
 
-use crate::change::Change;
-use crate::item::Item;
-use crate::lists::Lists;
-use crate::places::place_of;
 use crate::statements::body_items;
 use crate::steps::changes;
-use crate::triple::Triple;
+use control_actions::{Item, Lists, Triple};
+use expression_control::{Change, place_of};
 use program_model::{Body, BodyId, Program};
 use rlc_base::{NoMemory, Pos};
 use std::alloc::Global;

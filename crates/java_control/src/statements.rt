@@ -2,21 +2,20 @@
 
 ghost use Rattle.std.specs.Prelude.{◌≡◌, ◌≤◌, ◌++◌, ◌∷◌, [], map, flat_map, length, IfOk};
 ghost use Rattle.java_control.specs.Changes.{front_in, highest_front};
-ghost use Rattle.java_control.specs.Remaining.{Act, Cond, Do, Ev, For, Leave, one};
-ghost use Rattle.java_control.specs.declared.action.Action.TheVariants as actions;
-ghost use Rattle.java_control.specs.declared.action.Scope.TheVariants as scopes;
+ghost use Rattle.control_actions.specs.Remaining.{Act, Cond, Do, Ev, For, Leave, one};
+ghost use Rattle.control_actions.specs.declared.action.Action.TheVariants as actions;
+ghost use Rattle.control_actions.specs.declared.action.Scope.TheVariants as scopes;
 ghost use Rattle.program_model.specs.Lookups.{statement_at, type_at};
 ghost use Rattle.java_control.specs.Statements.{body_front, class_of_type, declaration_front, declarator_front, expression_statement, finally_front, first_items, first_items_at, clauses_front, for_condition, for_turn, head_front, initial_front, list_of_branch, listed_front, loop_turn, opens, closes, resources_front, return_front, statement_front, super_front, try_front, turn_front};
-ghost use Rattle.java_control.specs.Tables.{Keeps, bare, highest_of, list_at};
+ghost use Rattle.control_actions.specs.Tables.{Keeps, bare, highest_of, list_at};
 
-use crate::action::{Action, Completion, PlainValue, Scope};
-use crate::change::Front;
-use crate::expressions::{add_evaluations, type_or_null};
-use crate::fronts::{deeper, front_of, items_front, items_of, plain};
-use crate::item::{Closing, Condition, Item};
-use crate::lists::Lists;
-use crate::place::Place;
-use crate::places::expression_place;
+use control_actions::{
+    Action, Closing, Completion, Condition, Item, Lists, Place, PlainValue, Scope,
+};
+use expression_control::{
+    Front, add_evaluations, deeper, expression_place, front_of, items_front, items_of, plain,
+    type_or_null,
+};
 use program_model::{
     Body, CatchClause, ClassId, Declarator, ExprId, ForInitial, ForLoop, Resource, StatementKind,
     StmtId, SuperCall, TStmt, TryStatement, VType,
@@ -25,7 +24,7 @@ use rlc_base::{NoMemory, Pos};
 use std::alloc::Global;
 use try_statements::closing_order;
 
-#[tactic(auto, using(crate::proofs::FlatLemmas::flat_means, crate::proofs::FlatLemmas::flat_small))]
+#[tactic(auto, using(expression_control::proofs::FlatLemmas::flat_means, expression_control::proofs::FlatLemmas::flat_small))]
 fn block_items(
     alloc: Global,
     s: StmtId,
@@ -75,7 +74,7 @@ fn declarator_items(
     }
 }
 
-#[tactic(auto, using(crate::proofs::FlatLemmas::flat_means, crate::proofs::FlatLemmas::flat_small))]
+#[tactic(auto, using(expression_control::proofs::FlatLemmas::flat_means, expression_control::proofs::FlatLemmas::flat_small))]
 fn declaration_items(
     alloc: Global,
     body: &Body,
@@ -103,7 +102,7 @@ fn expression_items(alloc: Global, e: ExprId, d: u32, pos: Pos) -> Result<Vec<It
 }
 
 // The expressions at the head of a `for`.
-#[tactic(auto, using(crate::proofs::FlatLemmas::flat_means, crate::proofs::FlatLemmas::flat_small))]
+#[tactic(auto, using(expression_control::proofs::FlatLemmas::flat_means, expression_control::proofs::FlatLemmas::flat_small))]
 fn head_items(
     alloc: Global,
     body: &Body,
@@ -136,7 +135,7 @@ fn initial_items(
     }
 }
 
-#[tactic(auto, using(crate::proofs::FlatLemmas::flat_means, crate::proofs::FlatLemmas::flat_small))]
+#[tactic(auto, using(expression_control::proofs::FlatLemmas::flat_means, expression_control::proofs::FlatLemmas::flat_small))]
 fn for_items(
     alloc: Global,
     body: &Body,
@@ -236,7 +235,7 @@ fn closing_items(
     Ok(items)
 }
 
-#[tactic(auto, using(crate::proofs::FlatLemmas::flat_means, crate::proofs::FlatLemmas::flat_small))]
+#[tactic(auto, using(expression_control::proofs::FlatLemmas::flat_means, expression_control::proofs::FlatLemmas::flat_small))]
 fn resource_items(alloc: Global, s: StmtId, t: &TryStatement, d: u32) -> Result<Vec<Item>, NoMemory>
     ensures means { IfOk result (λ v. map bare v.items ≡ resources_front s t.now d) }
     ensures small { IfOk result (λ v. highest_of v.items ≡ 0) }
@@ -274,7 +273,7 @@ fn finally_items(alloc: Global, block: Option<StmtId>, d: u32) -> Result<Vec<Ite
     }
 }
 
-#[tactic(auto, using(crate::proofs::FlatLemmas::flat_means, crate::proofs::FlatLemmas::flat_small))]
+#[tactic(auto, using(expression_control::proofs::FlatLemmas::flat_means, expression_control::proofs::FlatLemmas::flat_small))]
 fn try_items(alloc: Global, s: StmtId, t: &TryStatement, d: u32) -> Result<Vec<Item>, NoMemory>
     ensures means { IfOk result (λ v. map bare v.items ≡ try_front s t.now d) }
     ensures small { IfOk result (λ v. highest_of v.items ≡ 0) }
@@ -288,7 +287,7 @@ fn try_items(alloc: Global, s: StmtId, t: &TryStatement, d: u32) -> Result<Vec<I
 }
 
 /// The super class's constructor runs on `this`.
-#[tactic(auto, using(crate::proofs::FlatLemmas::flat_means, crate::proofs::FlatLemmas::flat_small))]
+#[tactic(auto, using(expression_control::proofs::FlatLemmas::flat_means, expression_control::proofs::FlatLemmas::flat_small))]
 pub fn super_items(alloc: Global, c: &SuperCall, d: u32, pos: Pos) -> Result<Vec<Item>, NoMemory>
     ensures means { IfOk result (λ v. map bare v.items ≡ super_front c.now d pos) }
     ensures small { IfOk result (λ v. highest_of v.items ≡ 0) }
@@ -433,7 +432,7 @@ pub fn for_turn(
     }
 }
 
-#[tactic(auto, using(crate::proofs::FlatLemmas::flat_means, crate::proofs::FlatLemmas::flat_small))]
+#[tactic(auto, using(expression_control::proofs::FlatLemmas::flat_means, expression_control::proofs::FlatLemmas::flat_small))]
 fn updates(
     alloc: Global,
     body: &Body,

@@ -3,21 +3,16 @@
 ghost use Rattle.std.specs.Prelude.{◌≡◌, ◌≤◌, ◌∷◌, [], map, length, option_map, IfOk};
 ghost use Rattle.java_control.specs.Changes.{highest_changes, highest_first, seen};
 ghost use Rattle.java_control.specs.Becoming.{becomes, expression_becomes, for_becomes, loop_becomes, statement_becomes};
-ghost use Rattle.java_control.specs.declared.action.Action.TheVariants as actions;
-ghost use Rattle.java_control.specs.declared.action.Edge.TheVariants as edges;
-ghost use Rattle.java_control.specs.Tables.{Keeps, view_in};
+ghost use Rattle.control_actions.specs.declared.action.Action.TheVariants as actions;
+ghost use Rattle.control_actions.specs.declared.action.Edge.TheVariants as edges;
+ghost use Rattle.control_actions.specs.Tables.{Keeps, view_in};
 ghost use Rattle.program_model.specs.Lookups.{expression_at, statement_at};
 
-use crate::action::{Action, Completion, Edge};
-use crate::change::{Change, Front};
+use crate::actions::action_changes;
 use crate::completions::{close_front, completion_changes};
-use crate::conditions::{condition_front, fork};
-use crate::exceptions::action_changes;
-use crate::expressions::expression_front;
-use crate::fronts::{flat, one_way};
-use crate::item::Item;
-use crate::lists::Lists;
 use crate::statements::{for_turn, loop_turn, statement_front};
+use control_actions::{Action, Completion, Edge, Item, Lists};
+use expression_control::{Change, Front, condition_front, expression_front, flat, fork, one_way};
 use program_model::{Body, ExprId, Program, StmtId};
 use rlc_base::NoMemory;
 use std::alloc::Global;
@@ -99,7 +94,7 @@ fn expression_changes(
 }
 
 /// What the first items of a control become, by the first and the second one: the ways of its step, in order.
-#[tactic(auto, using(crate::proofs::FlatLemmas::changes_bare))]
+#[tactic(auto, using(expression_control::proofs::FlatLemmas::changes_bare))]
 pub fn changes(
     alloc: Global,
     lists: &mut Lists,

@@ -10,10 +10,11 @@ use Rattle.java_syntax.specs.Derives.{Lexeme, Step}
 use Rattle.java_syntax.specs.ExpressionTrees.{ExprTree}
 use Rattle.java_syntax.specs.AnnotationTrees.{AnnoTree}
 use Rattle.java_grammar.specs.Fronts.{IsClosedFront}
-use Rattle.java_values.specs.Values.{Nested, ValueTree, AExpression, AType, AAnnotations}
+use Rattle.java_nested_trees.specs.NestedTrees.{Nested}
+use Rattle.java_values.specs.Values.{ValueTree, AExpression, AType, AAnnotations}
 use Rattle.java_values.specs.Values as kinds
 use Rattle.java_values.specs.Kinds.{kind_of}
-use Rattle.java_values.specs.Nodes.{Made, IsNoMisfit}
+use Rattle.java_nested_trees.specs.Outcomes.{Made, IsNoMisfit}
 use Rattle.java_meaning.specs.Evaluation.{evaluate}
 use Rattle.java_meaning.specs.SymbolKinds.{symbol_takes, symbol_leaves}
 use Rattle.java_meaning.proofs.TableTest.{not_inside}

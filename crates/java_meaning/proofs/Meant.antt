@@ -6,26 +6,28 @@ use Rattle.java_syntax.specs.Derives.{Lexeme}
 use Rattle.java_syntax.specs.ExpressionTrees.{ExprTree}
 use Rattle.java_syntax.specs.AnnotationTrees.{ModifierTree}
 use Rattle.java_syntax.specs.StatementTrees.{BlockTree, ResourceTree, CatchTree, StmtTree}
-use Rattle.java_values.specs.Values.{Nested, IdentifiersTree, OpenOperationTree}
+use Rattle.java_nested_trees.specs.NestedTrees.{Nested, IdentifiersTree, OpenOperationTree}
 use Rattle.java_values.specs.Kinds.{Values, ◌▷◌, bottom}
-use Rattle.java_values.specs.Nodes.{Outcome, Made, TooDeep, Misfit, ◌>>=◌, IsNoMisfit, deeper, node, infix_node, field_access_node, identifier_node, method_call_node}
-use Rattle.java_values.specs.Operators.{infix_operator}
-use Rattle.java_values.specs.Parts.{fields_of, name_expression, called, head_node, selector_node, level_of, comparison, loosest, ClosedTree, closed, catch_node, try_node, try_finally_node}
+use Rattle.java_nested_trees.specs.Outcomes.{Outcome, Made, TooDeep, Misfit, ◌>>=◌, IsNoMisfit, deeper, node}
+use Rattle.java_expression_nodes.specs.Nodes.{infix_node, field_access_node, identifier_node, method_call_node}
+use Rattle.java_expression_nodes.specs.Operators.{infix_operator}
+use Rattle.java_expression_nodes.specs.Parts.{fields_of, name_expression, called, head_node, selector_node, level_of, comparison, loosest, ClosedTree, closed}
+use Rattle.java_statement_nodes.specs.Parts.{catch_node, try_node, try_finally_node}
 use Rattle.java_syntax.specs.declared.actions.TokenAction.{TokenAction}
 use Rattle.java_syntax.specs.declared.actions.TokenAction.TheVariants as token
-use Rattle.java_actions.specs.TokenActions.{takes_token, leaves_token, act_token}
+use Rattle.java_expression_actions.specs.TokenActions.{takes_token, leaves_token, act_token}
 use Rattle.java_syntax.specs.declared.actions.ExpressionAction.{ExpressionAction}
 use Rattle.java_syntax.specs.declared.actions.ExpressionAction.TheVariants as expression
-use Rattle.java_actions.specs.ExpressionActions.{takes_expression, leaves_expression, act_expression}
+use Rattle.java_expression_actions.specs.ExpressionActions.{takes_expression, leaves_expression, act_expression}
 use Rattle.java_syntax.specs.declared.actions.AnnotationAction.{AnnotationAction}
 use Rattle.java_syntax.specs.declared.actions.AnnotationAction.TheVariants as annotation
-use Rattle.java_actions.specs.AnnotationActions.{takes_annotation, leaves_annotation, act_annotation}
+use Rattle.java_expression_actions.specs.AnnotationActions.{takes_annotation, leaves_annotation, act_annotation}
 use Rattle.java_syntax.specs.declared.actions.StatementAction.{StatementAction}
 use Rattle.java_syntax.specs.declared.actions.StatementAction.TheVariants as statement
-use Rattle.java_actions.specs.StatementActions.{takes_statement, leaves_statement, act_statement}
+use Rattle.java_statement_actions.specs.StatementActions.{takes_statement, leaves_statement, act_statement}
 use Rattle.java_syntax.specs.declared.actions.DeclarationAction.{DeclarationAction}
 use Rattle.java_syntax.specs.declared.actions.DeclarationAction.TheVariants as declaration
-use Rattle.java_actions.specs.DeclarationActions.{takes_declaration, leaves_declaration, act_declaration}
+use Rattle.java_statement_actions.specs.DeclarationActions.{takes_declaration, leaves_declaration, act_declaration}
 
 -- the outcome is no misfit
 pub data IsMeant (A : Type 0) : Outcome A → Type 0 where

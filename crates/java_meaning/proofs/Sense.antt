@@ -26,18 +26,20 @@ use Rattle.java_syntax.specs.Derives.{Lexeme, Surroundings, at_start, after, ent
 use Rattle.java_syntax.specs.declared.names.Typ.{Typ}
 use Rattle.java_syntax.specs.ExpressionTrees.{ExprTree}
 use Rattle.java_values.specs.Values as kinds
-use Rattle.java_values.specs.Values.{Kind, Nested, ValueTree, ParenthesizedTree, NamesInside, ArrayInside, ExpressionInside, AParenthesized}
+use Rattle.java_nested_trees.specs.NestedTrees.{Nested, ParenthesizedTree, NamesInside, ArrayInside, ExpressionInside}
+use Rattle.java_values.specs.Values.{Kind, ValueTree, AParenthesized}
 use Rattle.java_values.specs.Kinds.{Values, ◌▷◌, bottom, Taken, with_top, taken, kind_of, IsTop, resume}
-use Rattle.java_values.specs.Nodes.{Outcome, Made, TooDeep, Misfit, ◌>>=◌, IsNoMisfit, parenthesized}
-use Rattle.java_values.specs.Parts.{type_inside, expression_inside}
+use Rattle.java_nested_trees.specs.Outcomes.{Outcome, Made, TooDeep, Misfit, ◌>>=◌, IsNoMisfit}
+use Rattle.java_expression_nodes.specs.Nodes.{parenthesized}
+use Rattle.java_expression_nodes.specs.Parts.{type_inside, expression_inside}
 use Rattle.java_meaning.specs.SymbolKinds.{symbol_takes, symbol_leaves, action_takes, action_leaves, LeavesKinds}
-use Rattle.java_actions.specs.TokenActions.{takes_token, leaves_token, act_token, perform_token}
-use Rattle.java_actions.specs.ExpressionActions.{takes_expression, leaves_expression, act_expression, perform_expression}
-use Rattle.java_actions.specs.AnnotationActions.{takes_annotation, leaves_annotation, act_annotation, perform_annotation}
-use Rattle.java_actions.specs.StatementActions.{takes_statement, leaves_statement, act_statement, perform_statement}
-use Rattle.java_actions.specs.DeclarationActions.{takes_declaration, leaves_declaration, act_declaration, perform_declaration}
+use Rattle.java_expression_actions.specs.TokenActions.{takes_token, leaves_token, act_token, perform_token}
+use Rattle.java_expression_actions.specs.ExpressionActions.{takes_expression, leaves_expression, act_expression, perform_expression}
+use Rattle.java_expression_actions.specs.AnnotationActions.{takes_annotation, leaves_annotation, act_annotation, perform_annotation}
+use Rattle.java_statement_actions.specs.StatementActions.{takes_statement, leaves_statement, act_statement, perform_statement}
+use Rattle.java_statement_actions.specs.DeclarationActions.{takes_declaration, leaves_declaration, act_declaration, perform_declaration}
 use Rattle.java_meaning.specs.Evaluation.{perform, evaluate}
-use Rattle.java_actions.proofs.Stacks.{has, IsFine, resume_fine, head_same, tail_same, nil_cons}
+use Rattle.java_values.proofs.Stacks.{has, IsFine, resume_fine, head_same, tail_same, nil_cons}
 use Rattle.java_meaning.proofs.Meant.{IsMeant, made, deep, no_misfit, then_meant, node_meant, names_meant, IsPlain, token_meant, expression_meant, annotation_meant, statement_meant, declaration_meant}
 use Rattle.java_meaning.proofs.TableTest.{not_inside, strip, run, strip_is, and_run_some, if_some, some_same, and_parts, run_used, run_whole, Context, nothing, behind, may_be_cast, no_array, ended_by, behind_token, behind_name, behind_array, behind_plain, casts, encloses, admits, admits_expression, guarded, context_of, guarded_used}
 

@@ -4,12 +4,12 @@ use Rattle.java_syntax.specs.declared.actions.Action.{Action}
 use Rattle.java_syntax.specs.declared.actions.Action.TheVariants as action
 use Rattle.java_syntax.specs.Derives.{Lexeme, Step, Took, Used, Did}
 use Rattle.java_values.specs.Values.{ValueTree}
-use Rattle.java_values.specs.Nodes.{Outcome, Made, Misfit, ◌>>=◌}
-use Rattle.java_actions.specs.TokenActions.{perform_token}
-use Rattle.java_actions.specs.ExpressionActions.{perform_expression}
-use Rattle.java_actions.specs.AnnotationActions.{perform_annotation}
-use Rattle.java_actions.specs.StatementActions.{perform_statement}
-use Rattle.java_actions.specs.DeclarationActions.{perform_declaration}
+use Rattle.java_nested_trees.specs.Outcomes.{Outcome, Made, Misfit, ◌>>=◌}
+use Rattle.java_expression_actions.specs.TokenActions.{perform_token}
+use Rattle.java_expression_actions.specs.ExpressionActions.{perform_expression}
+use Rattle.java_expression_actions.specs.AnnotationActions.{perform_annotation}
+use Rattle.java_statement_actions.specs.StatementActions.{perform_statement}
+use Rattle.java_statement_actions.specs.DeclarationActions.{perform_declaration}
 
 -- what an action does, where this is the last token
 abbrev pub perform : ℕ → Action → Option Lexeme → List ValueTree → Outcome (List ValueTree)

@@ -7,12 +7,12 @@ use Rattle.java_syntax.specs.declared.actions.Action.TheVariants as action
 use Rattle.java_values.specs.Values as kinds
 use Rattle.java_values.specs.Values.{Kind, ValueTree}
 use Rattle.java_values.specs.Kinds.{kind_of}
-use Rattle.java_values.specs.Nodes.{Outcome, Made, TooDeep, Misfit}
-use Rattle.java_actions.specs.TokenActions.{takes_token, leaves_token}
-use Rattle.java_actions.specs.ExpressionActions.{takes_expression, leaves_expression}
-use Rattle.java_actions.specs.AnnotationActions.{takes_annotation, leaves_annotation}
-use Rattle.java_actions.specs.StatementActions.{takes_statement, leaves_statement}
-use Rattle.java_actions.specs.DeclarationActions.{takes_declaration, leaves_declaration}
+use Rattle.java_nested_trees.specs.Outcomes.{Outcome, Made, TooDeep, Misfit}
+use Rattle.java_expression_actions.specs.TokenActions.{takes_token, leaves_token}
+use Rattle.java_expression_actions.specs.ExpressionActions.{takes_expression, leaves_expression}
+use Rattle.java_expression_actions.specs.AnnotationActions.{takes_annotation, leaves_annotation}
+use Rattle.java_statement_actions.specs.StatementActions.{takes_statement, leaves_statement}
+use Rattle.java_statement_actions.specs.DeclarationActions.{takes_declaration, leaves_declaration}
 
 abbrev pub symbol_takes : Symbol → List Kind
 symbol_takes symbol.Sections = kinds.units ∷ []

@@ -1,17 +1,19 @@
 ghost use Rattle.std.specs.Prelude.{◌≡◌, ◌∷◌, [], map, option_map, IfOk};
 ghost use Rattle.java_syntax.specs.AnnotationTrees.{AnnoTree};
 ghost use Rattle.java_syntax.specs.Derives.{lexeme_of, step_of, text_of};
-ghost use Rattle.java_values.specs.Values.{AAnnotations, values_of, lexeme_in};
-ghost use Rattle.java_values.specs.Parts.{none_of};
-ghost use Rattle.java_values.specs.Nodes.{Gives, IsNoMisfit};
+ghost use Rattle.java_nested_trees.specs.NestedTrees.{lexeme_in};
+ghost use Rattle.java_values.specs.Values.{AAnnotations, values_of};
+ghost use Rattle.java_nested_trees.specs.Lists.{none_of};
+ghost use Rattle.java_nested_trees.specs.Outcomes.{Gives, IsNoMisfit};
 ghost use Rattle.java_meaning.specs.Evaluation as meaning;
 
-use java_actions::{
-    perform_annotation_action, perform_declaration_action, perform_expression_action,
-    perform_statement_action, perform_token_action,
+use java_expression_actions::{
+    perform_annotation_action, perform_expression_action, perform_token_action,
 };
+use java_nested_trees::{BuildFail, Lexeme, none, put};
+use java_statement_actions::{perform_declaration_action, perform_statement_action};
 use java_syntax::{Action, Event, Token};
-use java_values::{BuildFail, Lexeme, Value, none, put};
+use java_values::Value;
 use rlc_base::{NoMemory, Text};
 use std::alloc::Global;
 

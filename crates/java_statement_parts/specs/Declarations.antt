@@ -8,7 +8,7 @@ use Rattle.java_syntax.specs.StatementTrees.{LocalTree, VariableTree}
 use Rattle.java_typed_trees.specs.declared.scope.Local.{Local}
 use Rattle.java_typed_trees.specs.declared.statements.DeclaratorShape.{DeclaratorShape}
 use Rattle.java_typed_trees.specs.ExpressionTrees as typed
-use Rattle.java_statement_rules.specs.JavaExpressionRulesNames.{cast_type, type_cases}
+use Rattle.java_statement_rules.specs.WrittenTypes.{cast_type, type_cases}
 use Rattle.java_statement_rules.specs.Surroundings.{Surroundings}
 use Rattle.java_typed_expressions.specs.Cases.{value_cases}
 use Rattle.java_typed_expressions.specs.Typings.{tree, value_facts}

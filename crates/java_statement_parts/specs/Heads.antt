@@ -1,4 +1,5 @@
 -- The expressions of statements: conditions, values, expression statements, and the first part of `for` (JLS 14.8 to 14.14).
+pub use Rattle.java_statement_scopes.specs.VariableCounts.{start_count}
 use Rattle.std.specs.Prelude.{ℕ, Bool, true, false, ◌&&◌, Option, Some, None, List, [], ◌∷◌, ◌++◌, length, map}
 use Rattle.std.specs.List.{flat_map}
 use Rattle.rlc_base.specs.declared.place.Pos.{Pos}
@@ -82,10 +83,6 @@ expression_trees s es = map (tree s None) es
 abbrev pub started_locals : StatementContext → ForStartTree → Pos → List Local
 started_locals c (syntax.Declaration l) place = locals_declared c l place
 started_locals c (syntax.Expressions es) place = []
-
-abbrev pub start_count : ForStartTree → ℕ
-start_count (syntax.Declaration l) = length l.variables
-start_count (syntax.Expressions es) = 0
 
 abbrev pub start_cases : StatementContext → ForStartTree → Pos → List Refusal
 start_cases c (syntax.Declaration l) place = declaration_cases c l place

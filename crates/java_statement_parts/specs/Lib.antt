@@ -1,9 +1,9 @@
-pub mod Clauses
 pub mod Declarations
 pub mod Heads
 pub mod Resources
-pub mod Scopes
 pub use Rattle.java_typed_expressions.specs.Accepted
 pub use Rattle.java_typed_expressions.specs.Cases
+pub use Rattle.java_statement_scopes.specs.Clauses
+pub use Rattle.java_statement_scopes.specs.Scopes
 pub use Rattle.java_typed_expressions.specs.Targets
 pub use Rattle.java_typed_expressions.specs.Typings

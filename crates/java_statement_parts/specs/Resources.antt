@@ -12,7 +12,7 @@ use Rattle.java_typed_trees.specs.declared.scope.Local.{Local}
 use Rattle.java_typed_trees.specs.declared.statements.ResourceShape.{ResourceShape}
 use Rattle.java_typed_trees.specs.ExpressionTrees as typed
 use Rattle.java_typed_trees.specs.Settling.{own_cases}
-use Rattle.java_statement_rules.specs.Calls.{method_in}
+use Rattle.java_statement_rules.specs.CallParts.{method_in}
 use Rattle.java_statement_rules.specs.Surroundings.{Surroundings}
 use Rattle.java_typed_expressions.specs.Cases.{value_cases}
 use Rattle.java_typed_expressions.specs.Typings.{tree, value_facts}

@@ -6,14 +6,14 @@ ghost use Rattle.java_syntax.specs.ExpressionTrees.{expr_of};
 ghost use Rattle.java_syntax.specs.StatementTrees.{local_of, variable_of};
 ghost use Rattle.java_typed_trees.specs.ExpressionTrees.{tree_of};
 ghost use Rattle.java_statement_parts.specs.Declarations.{behind_initializer, declaration_cases, declaration_trees, declared_by, declared_locals, declarators, initial_constant, initializer_cases, initializer_tree, initializer_trees, in_initializer, locals_declared, variable_cases, variables_cases};
-ghost use Rattle.java_statement_parts.specs.Scopes.{context_at, surroundings_at};
+ghost use Rattle.java_statement_scopes.specs.Scopes.{context_at, surroundings_at};
 
-use crate::scope::{StatementScope, body_scope, take_number};
 use crate::values::push_value;
 use java_statement_rules::{
     cast_type, constant_value, count_double, count_storing, count_unknown, has_final,
     local_variable,
 };
+use java_statement_scopes::{StatementScope, body_scope, take_number};
 use java_syntax::{Expr, Local as LocalDecl, Variable as VariableDecl};
 use java_typed_trees::{DeclaratorShape, ExpressionTree, Local};
 use program_model::VType;

@@ -4,12 +4,13 @@ ghost use Rattle.std.specs.Prelude.{◌≡◌, ◌+◌, ◌++◌, IfOk, OnOk, ma
 ghost use Rattle.java_syntax.specs.StatementTrees.{for_start_of};
 ghost use Rattle.java_typed_trees.specs.ExpressionTrees.{tree_of};
 ghost use Rattle.java_typed_trees.specs.StatementTrees.{initial_form};
-ghost use Rattle.java_statement_parts.specs.Heads.{start_cases, start_count, start_form, start_trees, started_locals};
-ghost use Rattle.java_statement_parts.specs.Scopes.{context_at};
+ghost use Rattle.java_statement_parts.specs.Heads.{start_cases, start_form, start_trees, started_locals};
+ghost use Rattle.java_statement_scopes.specs.Scopes.{context_at};
+ghost use Rattle.java_statement_scopes.specs.VariableCounts.{start_count};
 
 use crate::declarations::declaration;
-use crate::scope::StatementScope;
 use crate::values::push_expressions;
+use java_statement_scopes::StatementScope;
 use java_syntax::ForStart;
 use java_typed_trees::{ExpressionTree, InitialShape, Local};
 use rlc_base::{NoMemory, Pos, Refusal};

@@ -7,17 +7,17 @@ ghost use Rattle.java_syntax.specs.StatementTrees.{resource_of};
 ghost use Rattle.java_typed_trees.specs.ExpressionTrees.{tree_of};
 ghost use Rattle.java_typed_trees.specs.Settling.{own_cases};
 ghost use Rattle.java_typed_expressions.specs.Typings.{tree};
-ghost use Rattle.java_statement_rules.specs.Calls.{method_in};
+ghost use Rattle.java_statement_rules.specs.CallParts.{method_in};
 ghost use Rattle.java_statement_rules.specs.Resources.{class_type, closing_by};
 ghost use Rattle.java_statement_parts.specs.Resources.{closing_cases, closing_of, opening_cases, opening_tree, opening_trees, resource_cases, resource_class_cases, resource_local, resource_locals, resource_shape, resource_shapes, resource_shapes_by, resources_cases};
-ghost use Rattle.java_statement_parts.specs.Scopes.{context_at, surroundings_at};
+ghost use Rattle.java_statement_scopes.specs.Scopes.{context_at, surroundings_at};
 
-use crate::scope::{StatementScope, body_scope, take_number};
 use crate::values::push_value;
 use java_statement_rules::{
     class_type, closing_by, count_closeable, count_double, count_storing, count_unknown,
     local_variable,
 };
+use java_statement_scopes::{StatementScope, body_scope, take_number};
 use java_syntax::{Expr, Resource};
 use java_typed_trees::{Answer, ExpressionTree, Local, ResourceShape, Shape, settle};
 use program_model::{MethodId, VType};

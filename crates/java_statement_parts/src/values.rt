@@ -6,12 +6,12 @@ ghost use Rattle.java_typed_trees.specs.ExpressionTrees.{tree_of};
 ghost use Rattle.java_typed_expressions.specs.Cases.{cases, value_cases};
 ghost use Rattle.java_typed_expressions.specs.Typings.{tree, value_facts};
 ghost use Rattle.java_statement_parts.specs.Heads.{expression_trees, expressions_cases, goes_on, is_always, is_literal, is_literal_true, optional_cases, optional_tree, plain_tree, required_cases, returned, returning_cases, throwing_cases};
-ghost use Rattle.java_statement_parts.specs.Scopes.{surroundings_at};
+ghost use Rattle.java_statement_scopes.specs.Scopes.{surroundings_at};
 
-use crate::scope::{StatementScope, body_scope};
 use java_statement_rules::{
     count_condition, count_plain_return, count_return, count_throw, is_always_true, operand,
 };
+use java_statement_scopes::{StatementScope, body_scope};
 use java_syntax::Expr;
 use java_typed_expressions::{expression, value};
 use java_typed_trees::{ExpressionTree, Facts, Local};

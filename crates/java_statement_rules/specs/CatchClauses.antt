@@ -13,8 +13,8 @@ use Rattle.program_model.specs.SuperTests.{is_under}
 use Rattle.java_syntax.specs.declared.names.Name.{Name}
 use Rattle.java_syntax.specs.AnnotationTrees.{ModifierTree}
 use Rattle.java_conversions.specs.Conditionals.{least_upper_bound}
-use Rattle.java_expression_rules.specs.Names.{class_of_name, unknown_name_cases}
-use Rattle.java_expression_rules.specs.Surroundings.{Surroundings}
+use Rattle.java_call_rules.specs.WrittenTypes.{class_of_name, unknown_name_cases}
+use Rattle.java_call_rules.specs.Surroundings.{Surroundings}
 use Rattle.java_statement_rules.specs.DeclaredVariables.{has_final}
 use Rattle.java_statement_rules.specs.StatementCases.{unless}
 

@@ -4,7 +4,7 @@ use Rattle.program_model.specs.declared.kinds.ClassId.{ClassId}
 use Rattle.program_model.specs.declared.kinds.VType.{VType}
 use Rattle.program_model.specs.declared.program.Program.{Program}
 use Rattle.java_typed_trees.specs.declared.scope.Local.{Local}
-use Rattle.java_expression_rules.specs.Surroundings.{Surroundings}
+use Rattle.java_call_rules.specs.Surroundings.{Surroundings}
 
 -- where a statement stands
 pub record StatementContext : Type 0 where

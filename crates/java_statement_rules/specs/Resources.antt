@@ -9,14 +9,14 @@ use Rattle.program_model.specs.declared.program.Program.{Program}
 use Rattle.program_model.specs.SuperTests.{is_under}
 use Rattle.program_model.specs.Typing.{class_of}
 use Rattle.java_syntax.specs.declared.names.Name.{Name}
-use Rattle.java_expression_rules.specs.ClassNames as class_names
+use Rattle.java_call_rules.specs.ClassNames as class_names
 use Rattle.java_conversions.specs.Types.{type_of_class}
 use Rattle.java_typed_trees.specs.declared.facts.Answer.{Answer}
 use Rattle.java_typed_trees.specs.declared.facts.Answer.TheVariants as answers
 use Rattle.java_typed_trees.specs.Answers.{value_at}
-use Rattle.java_expression_rules.specs.Calls.{object_call}
-use Rattle.java_expression_rules.specs.Names.{class_of_name, unknown_name_cases}
-use Rattle.java_expression_rules.specs.Surroundings.{Surroundings}
+use Rattle.java_call_rules.specs.Calls.{object_call}
+use Rattle.java_call_rules.specs.WrittenTypes.{class_of_name, unknown_name_cases}
+use Rattle.java_call_rules.specs.Surroundings.{Surroundings}
 use Rattle.java_statement_rules.specs.StatementCases.{unless}
 
 -- the type that the name of a class means: none where it is refused

@@ -5,14 +5,14 @@ ghost use Rattle.std.specs.Option.{option_map};
 ghost use Rattle.program_model.specs.declared.kinds.VType.TheVariants as types;
 ghost use Rattle.program_model.specs.Lookups.{optional};
 ghost use Rattle.java_syntax.specs.AnnotationTrees.{modifier_of};
-ghost use Rattle.java_expression_rules.specs.Names.{class_of_name};
-ghost use Rattle.java_expression_rules.specs.Surroundings.{surroundings_of};
+ghost use Rattle.java_call_rules.specs.WrittenTypes.{class_of_name};
+ghost use Rattle.java_call_rules.specs.Surroundings.{surroundings_of};
 ghost use Rattle.java_statement_rules.specs.CatchClauses.{alternative_cases, alternatives_cases, caught_by, caught_class, caught_classes, classes_named, each_alternative_cases, exception_cases, has_alternative, has_several, if_exception, is_exception_class, is_final_parameter, joined_class, joined_classes, or_throwable, parameter_type};
 
 use crate::statements::count_unless;
 use crate::variables::has_final;
+use java_call_rules::{BodyScope, class_of_name, count_unknown};
 use java_conversions::least_upper_bound;
-use java_expression_rules::{BodyScope, class_of_name, count_unknown};
 use java_syntax::{Modifier, Name};
 use program_model::{ClassId, Program, VType, under};
 use rlc_base::{NoMemory, Pos, Refusal};

@@ -15,7 +15,7 @@ pub use completion::{
     Completion, abrupt, and_then, breaking, continuing, do_completion, is_always_true,
     loop_completion, normal, one_of,
 };
-pub use java_expression_rules::{BodyScope, cast_type, count_unknown, operand};
+pub use java_call_rules::{BodyScope, cast_type, count_unknown, operand};
 pub use resources::{class_type, closing_by, count_closeable};
 pub use statements::{
     count_condition, count_plain_return, count_return, count_storing, count_throw, count_unless,

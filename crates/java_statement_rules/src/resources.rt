@@ -2,16 +2,14 @@
 
 ghost use Rattle.std.specs.Prelude.{◌≡◌, ◌++◌, IfOk, OnOk, false, []};
 ghost use Rattle.java_typed_trees.specs.Answers.{value_at};
-ghost use Rattle.java_expression_rules.specs.Calls.{members_named, object_call};
-ghost use Rattle.java_expression_rules.specs.Surroundings.{surroundings_of};
+ghost use Rattle.java_call_rules.specs.Calls.{members_named, object_call};
+ghost use Rattle.java_call_rules.specs.Surroundings.{surroundings_of};
 ghost use Rattle.java_statement_rules.specs.Resources.{class_type, close_name, closeable_cases, closing_by, is_closeable, is_under_both};
 
 use crate::statements::count_unless;
 use class_members::methods_named;
+use java_call_rules::{BodyScope, MethodResolution, class_of_name, object_call_by, resolution};
 use java_conversions::{class_of, type_of_class};
-use java_expression_rules::{
-    BodyScope, MethodResolution, class_of_name, object_call_by, resolution,
-};
 use java_syntax::Name;
 use java_typed_trees::{Answer, value_at};
 use program_model::{ClassId, MethodId, Program, VType, under};

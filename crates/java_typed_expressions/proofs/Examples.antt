@@ -16,10 +16,10 @@ use Rattle.java_syntax.specs.ExpressionTrees as syntax
 use Rattle.java_typed_trees.specs.declared.shapes.Shape.TheVariants as shapes
 use Rattle.java_typed_trees.specs.Answers.{constant_at, refused, value_at}
 use Rattle.java_typed_trees.specs.ExpressionTrees.{Node, no_expression}
-use Rattle.java_expression_rules.specs.Arguments.{value_types}
+use Rattle.java_call_rules.specs.Arguments.{value_types}
 use Rattle.java_typed_expressions.specs.Cases.{cases}
-use Rattle.java_expression_rules.specs.Surroundings.{Surroundings}
-use Rattle.java_expression_rules.specs.TypedParts.{three}
+use Rattle.java_call_rules.specs.Surroundings.{Surroundings}
+use Rattle.java_call_rules.specs.TypedParts.{three}
 use Rattle.java_typed_expressions.specs.Typings.{facts}
 
 abbrev int_typ : Pos → Typ

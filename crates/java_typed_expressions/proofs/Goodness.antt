@@ -14,13 +14,13 @@ use Rattle.java_typed_trees.specs.AnswerParts.{IsSettled}
 use Rattle.java_typed_trees.specs.Answers.{type_in, type_of, value_type, void_cases, void_cases_of}
 use Rattle.java_typed_trees.specs.ExpressionTrees.{ExprTree, ExprTrees, Node, and_expression, expressions, no_expression}
 use Rattle.java_typed_trees.specs.WellFormed.{AreWellFormed, IsWellFormed, Takes, count}
-use Rattle.java_expression_rules.specs.Arguments.{all_in_context, in_context, in_contexts, operands_in_context, takes_context}
-use Rattle.java_expression_rules.specs.Calls.{is_implied, with_implied_this}
-use Rattle.java_expression_rules.specs.Names.{unknown_name_cases}
-use Rattle.java_expression_rules.specs.Surroundings.{Surroundings}
-use Rattle.java_expression_rules.specs.TypedParts.{Typing, facts_of, has_type, have_types, one, operand, own_refusals, three, trees_in, two, typing_by, value_refusals}
+use Rattle.java_call_rules.specs.Arguments.{all_in_context, in_context, in_contexts, operands_in_context, takes_context}
+use Rattle.java_call_rules.specs.CallParts.{is_implied, with_implied_this}
+use Rattle.java_call_rules.specs.WrittenTypes.{unknown_name_cases}
+use Rattle.java_call_rules.specs.Surroundings.{Surroundings}
+use Rattle.java_call_rules.specs.TypedParts.{Typing, facts_of, has_type, have_types, one, operand, own_refusals, three, trees_in, two, typing_by, value_refusals}
 use Rattle.java_member_rules.specs.Names.{implied_this}
-use Rattle.java_expression_rules.proofs.Whole.{IsWhole}
+use Rattle.java_call_rules.proofs.Whole.{IsWhole}
 
 -- ---- lists without elements
 

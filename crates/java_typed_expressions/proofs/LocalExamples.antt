@@ -13,7 +13,7 @@ use Rattle.java_typed_trees.specs.declared.facts.StaticType.TheVariants as stati
 use Rattle.java_typed_trees.specs.declared.scope.Local.{Local}
 use Rattle.java_typed_trees.specs.Answers.{refused}
 use Rattle.java_typed_expressions.specs.Cases.{cases}
-use Rattle.java_expression_rules.specs.Surroundings.{Surroundings}
+use Rattle.java_call_rules.specs.Surroundings.{Surroundings}
 
 abbrev local_x : StaticType → Bool → Local
 local_x t is_final = record { name = codes "x"; variable = record { number = 0; static_type = t; constant = None; is_final = is_final } }

@@ -17,23 +17,26 @@ use Rattle.java_typed_trees.specs.Answers.{type_of}
 use Rattle.java_typed_trees.specs.ExpressionTrees.{ExprTree, ExprTrees, Node, and_expression, expressions, no_expression}
 use Rattle.java_typed_trees.specs.Settling.{own_cases}
 use Rattle.java_typed_trees.specs.WellFormed.{AreWellFormed, IsWellFormed, Takes, count}
-use Rattle.java_expression_rules.specs.Arrays.{element_by, new_array_by}
-use Rattle.java_expression_rules.specs.Casts.{cast_by, instance_of_by}
-use Rattle.java_expression_rules.specs.Conditionals.{conditional_by}
-use Rattle.java_expression_rules.specs.Literals.{literal_as, literal_by, literal_under_minus_by, type_of_literal}
-use Rattle.java_expression_rules.specs.Operators.{binary_by, unary_by}
-use Rattle.java_expression_rules.proofs.RuleLaws as laws
+use Rattle.java_operator_expressions.specs.Arrays.{element_by, new_array_by}
+use Rattle.java_operator_expressions.specs.Casts.{cast_by, instance_of_by}
+use Rattle.java_operator_expressions.specs.Conditionals.{conditional_by}
+use Rattle.java_operator_expressions.specs.Literals.{literal_as, literal_by, literal_under_minus_by, type_of_literal}
+use Rattle.java_operator_expressions.specs.Operators.{binary_by, unary_by, operator_of, step_operator_of, unary_operator_of}
+use Rattle.java_operator_expressions.proofs.RuleLaws as laws
 use Rattle.java_member_rules.specs.Assignments.{assignment_by}
 use Rattle.java_member_rules.specs.Names.{this_by}
-use Rattle.java_expression_rules.specs.Assignments.{assigned_target, assignment_typing, compound_by, implied_one, may_update, postfix_by, prefix_by}
-use Rattle.java_expression_rules.specs.Calls.{argument_trees, call_by, class_call, is_written_this, method_in, new_by, new_typing, object_call, parameters_of, super_by, super_call_typing, unqualified_call_typing, with_implied_this}
-use Rattle.java_expression_rules.specs.Fields.{class_access, object_access}
-use Rattle.java_expression_rules.specs.Names.{cast_type, class_meant, class_of_name, element_type, identifier_by, tested_type, unknown_name_cases}
-use Rattle.java_expression_rules.specs.Operators.{operator_of, step_operator_of, unary_operator_of}
-use Rattle.java_expression_rules.specs.Surroundings.{Surroundings}
-use Rattle.java_expression_rules.specs.Arguments.{in_contexts}
-use Rattle.java_expression_rules.specs.TypedParts.{Typing, one, operand, own_refusals, parts_of, shape_of, trees_in, two, typing_by, value_refusals, with_last}
-use Rattle.java_expression_rules.proofs.Whole.{AreTyped, IsWhole, assignment_is_whole, call_by_is_whole, class_access_is_whole, class_call_by_is_whole, compound_is_whole, identifier_is_whole, new_by_is_whole, object_access_is_whole, object_call_by_is_whole, postfix_is_whole, prefix_is_whole, super_by_is_whole, this_is_whole}
+use Rattle.java_variable_rules.specs.Assignments.{assigned_target, assignment_typing, compound_by, implied_one, may_update, postfix_by, prefix_by, is_written_this}
+use Rattle.java_call_rules.specs.CallParts.{argument_trees, method_in, parameters_of, with_implied_this}
+use Rattle.java_call_rules.specs.Calls.{call_by, class_call, new_by, new_typing, object_call, super_by, super_call_typing, unqualified_call_typing}
+use Rattle.java_variable_rules.specs.Fields.{class_access, object_access}
+use Rattle.java_call_rules.specs.WrittenTypes.{cast_type, class_of_name, element_type, tested_type, unknown_name_cases}
+use Rattle.java_variable_rules.specs.Names.{class_meant, identifier_by}
+use Rattle.java_call_rules.specs.Surroundings.{Surroundings}
+use Rattle.java_call_rules.specs.Arguments.{in_contexts}
+use Rattle.java_call_rules.specs.TypedParts.{Typing, one, operand, own_refusals, parts_of, shape_of, trees_in, two, typing_by, value_refusals, with_last}
+use Rattle.java_variable_rules.proofs.VariableLaws.{AreTyped, assignment_is_whole, class_access_is_whole, compound_is_whole, identifier_is_whole, object_access_is_whole, postfix_is_whole, prefix_is_whole, this_is_whole}
+use Rattle.java_call_rules.proofs.Whole.{IsWhole}
+use Rattle.java_call_rules.proofs.CallLaws.{call_by_is_whole, class_call_by_is_whole, new_by_is_whole, object_call_by_is_whole, super_by_is_whole}
 use Rattle.java_typed_expressions.specs.Cases.{argument_cases, cases, class_cases, operand_cases, target_cases, value_cases}
 use Rattle.java_typed_expressions.specs.Targets.{call_on, field_on, target_typing}
 use Rattle.java_typed_expressions.specs.Typings.{answer_under, answer_under_minus, cast_typing, instance_of_typing, new_array_typing, operand_typing, tree, typing, typings, unary_typing}

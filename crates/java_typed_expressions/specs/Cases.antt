@@ -10,9 +10,10 @@ use Rattle.java_syntax.specs.ExpressionTrees as syntax
 use Rattle.java_typed_trees.specs.declared.facts.Answer.{Answer}
 use Rattle.java_typed_trees.specs.Answers.{type_of}
 use Rattle.java_typed_trees.specs.Settling.{own_cases}
-use Rattle.java_expression_rules.specs.Names.{cast_type, class_meant, class_of_name, element_type, tested_type, type_cases, unknown_name_cases}
-use Rattle.java_expression_rules.specs.Surroundings.{Surroundings}
-use Rattle.java_expression_rules.specs.TypedParts.{operand, own_refusals, value_refusals}
+use Rattle.java_call_rules.specs.WrittenTypes.{cast_type, class_of_name, element_type, tested_type, type_cases, unknown_name_cases}
+use Rattle.java_variable_rules.specs.Names.{class_meant}
+use Rattle.java_call_rules.specs.Surroundings.{Surroundings}
+use Rattle.java_call_rules.specs.TypedParts.{operand, own_refusals, value_refusals}
 use Rattle.java_typed_expressions.specs.Typings.{answer_under, typing}
 
 -- those of what stands before a dot: a class has none

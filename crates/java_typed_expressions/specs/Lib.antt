@@ -2,4 +2,4 @@ pub mod Accepted
 pub mod Cases
 pub mod Targets
 pub mod Typings
-pub use Rattle.java_expression_rules.specs.Surroundings
+pub use Rattle.java_call_rules.specs.Surroundings

@@ -2,10 +2,10 @@
 use Rattle.std.specs.Prelude.{ℕ, Bool, Option, Some, None, List}
 use Rattle.rlc_base.specs.declared.place.Pos.{Pos}
 use Rattle.program_model.specs.declared.kinds.ClassId.{ClassId}
-use Rattle.java_expression_rules.specs.Calls.{class_call_typing, object_call_typing}
-use Rattle.java_expression_rules.specs.Fields.{class_access_typing, object_access_typing}
-use Rattle.java_expression_rules.specs.Surroundings.{Surroundings}
-use Rattle.java_expression_rules.specs.TypedParts.{Typing, typing_of}
+use Rattle.java_call_rules.specs.Calls.{class_call_typing, object_call_typing}
+use Rattle.java_variable_rules.specs.Fields.{class_access_typing, object_access_typing}
+use Rattle.java_call_rules.specs.Surroundings.{Surroundings}
+use Rattle.java_call_rules.specs.TypedParts.{Typing, typing_of}
 use Rattle.java_typed_expressions.specs.declared.targets.Target.{Target}
 use Rattle.java_typed_expressions.specs.declared.targets.Target.TheVariants as targets
 

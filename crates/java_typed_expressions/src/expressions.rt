@@ -2,25 +2,28 @@
 
 ghost use Rattle.std.specs.Prelude.{◌≡◌, ◌++◌, IfOk, None, OnOk, map};
 ghost use Rattle.java_syntax.specs.ExpressionTrees.{expr_of, expressions};
-ghost use Rattle.java_expression_rules.specs.Names.{class_meant};
-ghost use Rattle.java_expression_rules.specs.Surroundings.{surroundings_of};
-ghost use Rattle.java_expression_rules.specs.TypedParts.{own_refusals, typing_of};
+ghost use Rattle.java_variable_rules.specs.Names.{class_meant};
+ghost use Rattle.java_call_rules.specs.Surroundings.{surroundings_of};
+ghost use Rattle.java_call_rules.specs.TypedParts.{own_refusals, typing_of};
 ghost use Rattle.java_typed_expressions.specs.Cases.{argument_cases, cases, operand_cases, target_cases, value_cases};
 ghost use Rattle.java_typed_expressions.specs.Targets.{target_typing, typing_of_target};
 ghost use Rattle.java_typed_expressions.specs.Typings.{answer_under, operand_typing, typing, typings};
 
-use crate::operators::{
-    answer_under, binary, cast, conditional, element, instance_of, literal, new_array, this, unary,
-};
 use crate::targets::{Target, field_access, method_call};
-use java_expression_rules::{
-    BodyScope, ExpressionTyping, assignment, cast_type, class_meant, class_of_name,
-    compound_assignment, count_unknown, element_type, identifier, is_written_this, needed_value,
-    new_object, operand, operator_of, postfix_step, prefix_step, settle_in, step_operator_of,
-    super_call, tested_type, unary_operator_of, unqualified_call,
+use java_call_rules::{
+    BodyScope, ExpressionTyping, cast_type, class_of_name, count_unknown, element_type,
+    needed_value, new_object, operand, settle_in, super_call, tested_type, unqualified_call,
+};
+use java_operator_expressions::{
+    answer_under, binary, cast, conditional, element, instance_of, literal, new_array, operator_of,
+    step_operator_of, this, unary, unary_operator_of,
 };
 use java_syntax::{Expr, PrefixOperator};
 use java_typed_trees::type_of;
+use java_variable_rules::{
+    assignment, class_meant, compound_assignment, identifier, is_written_this, postfix_step,
+    prefix_step,
+};
 use program_model::VType;
 use rlc_base::{NoMemory, Refusal};
 use std::alloc::Global;

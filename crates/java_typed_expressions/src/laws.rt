@@ -4,7 +4,7 @@ ghost use Rattle.std.specs.Prelude.{◌≡◌, Option, []};
 ghost use Rattle.program_model.specs.declared.kinds.VType.{VType};
 ghost use Rattle.java_syntax.specs.ExpressionTrees.{ExprTree};
 ghost use Rattle.java_typed_trees.specs.WellFormed.{IsWellFormed};
-ghost use Rattle.java_expression_rules.specs.Surroundings.{Surroundings};
+ghost use Rattle.java_call_rules.specs.Surroundings.{Surroundings};
 ghost use Rattle.java_typed_expressions.specs.Accepted.{GivesValue, HaveTypes};
 ghost use Rattle.java_typed_expressions.specs.Cases.{cases, value_cases};
 ghost use Rattle.java_typed_expressions.specs.Typings.{tree, value_facts};

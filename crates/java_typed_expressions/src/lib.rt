@@ -3,9 +3,8 @@
 
 mod expressions;
 mod laws;
-mod operators;
 mod targets;
 
 pub use expressions::{arguments, expression, value};
-pub use java_expression_rules::{BodyScope, one, operand, settle_in, two};
+pub use java_call_rules::{BodyScope, one, operand, settle_in, two};
 pub use laws::{accepted_is_well_formed, accepted_value_has_type};

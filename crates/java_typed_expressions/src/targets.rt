@@ -1,13 +1,12 @@
 //! Field accesses and method calls, over the typing of what stands before the dot (JLS 15.11, 15.12).
 
 ghost use Rattle.std.specs.Prelude.{◌≡◌, ◌++◌, IfOk, OnOk, map};
-ghost use Rattle.java_expression_rules.specs.Surroundings.{surroundings_of};
-ghost use Rattle.java_expression_rules.specs.TypedParts.{own_refusals, typing_of};
+ghost use Rattle.java_call_rules.specs.Surroundings.{surroundings_of};
+ghost use Rattle.java_call_rules.specs.TypedParts.{own_refusals, typing_of};
 ghost use Rattle.java_typed_expressions.specs.Targets.{call_on, field_on, typing_of_target};
 
-use java_expression_rules::{
-    BodyScope, ExpressionTyping, class_field, class_method_call, object_field, object_method_call,
-};
+use java_call_rules::{BodyScope, ExpressionTyping, class_method_call, object_method_call};
+use java_variable_rules::{class_field, object_field};
 use program_model::ClassId;
 use rlc_base::{NoMemory, Pos, Refusal, Text};
 use std::alloc::Global;

@@ -10,13 +10,13 @@ use Rattle.java_typed_trees.specs.StatementTrees as forms
 use Rattle.java_statement_rules.specs.declared.completion.Completion.{Completion}
 use Rattle.java_statement_rules.specs.Completions.{and_then, one_of}
 use Rattle.java_statement_rules.specs.Contexts.{StatementContext, covered_of, numbered_from, program_of}
-use Rattle.java_statement_parts.specs.Clauses.{caught_by_all, swallowed}
+use Rattle.java_statement_scopes.specs.Clauses.{caught_by_all, swallowed}
 use Rattle.java_statement_parts.specs.Resources.{opening_trees, resource_shapes, resources_cases}
 use Rattle.java_typed_statements.specs.StatementCases.{block_cases, catches_cases, finally_cases, statement_cases}
 use Rattle.java_typed_statements.specs.StatementCompletions.{block_completion, catches_completion, completion, finally_completion}
 use Rattle.java_typed_statements.specs.StatementContexts.{behind_resources, catches_context, finally_context, resources_context}
 use Rattle.java_typed_statements.specs.StatementTrees.{block_tree, catch_forms, catch_trees, finally_tree, has_finally, statement_tree}
-use Rattle.java_typed_statements.specs.VariableCounts.{block_count, catches_count}
+use Rattle.java_statement_scopes.specs.VariableCounts.{block_count, catches_count}
 
 -- where just these exceptions are covered, and the next variable has this number
 abbrev pub covered_by : StatementContext → List ClassId → ℕ → StatementContext

@@ -10,7 +10,7 @@ use Rattle.std.specs.Prelude.{None}
 use Rattle.java_statement_rules.specs.declared.completion.Completion.{Completion}
 use Rattle.java_statement_rules.specs.Contexts.{StatementContext, in_a_loop}
 use Rattle.java_statement_rules.specs.StatementCases.{unless}
-use Rattle.java_statement_parts.specs.Clauses.{clause_cases}
+use Rattle.java_statement_scopes.specs.Clauses.{clause_cases}
 use Rattle.java_statement_parts.specs.Declarations.{declaration_cases}
 use Rattle.java_statement_parts.specs.Heads.{expressions_cases, optional_cases, required_cases, returning_cases, start_cases, throwing_cases}
 use Rattle.java_statement_parts.specs.Resources.{resources_cases}

@@ -10,11 +10,11 @@ use Rattle.java_statement_rules.specs.declared.completion.Completion.{Completion
 use Rattle.java_statement_rules.specs.CatchClauses.{is_final_parameter, parameter_type}
 use Rattle.java_statement_rules.specs.Contexts.{StatementContext, covering, in_a_loop, locals_of, numbered_from, program_of, with_local, with_locals}
 use Rattle.java_statement_rules.specs.DeclaredVariables.{local_variable}
-use Rattle.java_statement_parts.specs.Clauses.{caught_by_all, swallowed}
+use Rattle.java_statement_scopes.specs.Clauses.{caught_by_all, swallowed}
 use Rattle.java_statement_parts.specs.Declarations.{locals_declared}
-use Rattle.java_statement_parts.specs.Heads.{start_count, started_locals}
+use Rattle.java_statement_parts.specs.Heads.{started_locals}
 use Rattle.java_statement_parts.specs.Resources.{resource_locals}
-use Rattle.java_typed_statements.specs.VariableCounts.{block_count, catches_count, variable_count}
+use Rattle.java_statement_scopes.specs.VariableCounts.{block_count, catches_count, start_count, variable_count}
 
 -- ---- behind a statement
 

@@ -2,9 +2,8 @@
 //! behind it, and all refusals in it.
 #![tactic(auto)]
 
-mod counts;
 mod simple_statements;
 mod statement_typing;
 
-pub use java_statement_parts::StatementScope;
+pub use java_statement_scopes::StatementScope;
 pub use statement_typing::{statement, statements};

@@ -14,14 +14,13 @@ ghost use Rattle.java_statement_rules.specs.Completions.{abrupt, breaking, conti
 ghost use Rattle.java_statement_rules.specs.StatementCases.{unless};
 ghost use Rattle.java_statement_parts.specs.Declarations.{locals_declared};
 ghost use Rattle.java_statement_parts.specs.Heads.{plain_tree, returned, returning_cases, throwing_cases};
-ghost use Rattle.java_statement_parts.specs.Scopes.{context_at, surroundings_at};
+ghost use Rattle.java_statement_scopes.specs.Scopes.{context_at, surroundings_at};
 ghost use Rattle.java_typed_statements.specs.StatementCases.{statement_cases};
 ghost use Rattle.java_typed_statements.specs.StatementTrees as trees_of;
 
-use java_statement_parts::{
-    StatementScope, declaration, push_expression, push_returned, push_thrown,
-};
+use java_statement_parts::{declaration, push_expression, push_returned, push_thrown};
 use java_statement_rules::{Completion, abrupt, breaking, continuing, count_unless, normal};
+use java_statement_scopes::StatementScope;
 use java_syntax::{Expr, Local as LocalDecl};
 use java_typed_trees::{Local, StatementShape, StatementTree, statement_tree};
 use rlc_base::{NoMemory, Pos, Refusal};

@@ -11,25 +11,26 @@ ghost use Rattle.java_statement_rules.specs.Completions.{one_of};
 ghost use Rattle.java_statement_rules.specs.Contexts.{in_a_loop};
 ghost use Rattle.java_statement_parts.specs.Resources.{opening_trees, resource_shapes, resources_cases};
 ghost use Rattle.java_statement_parts.specs.Heads.{plain_tree, required_cases};
-ghost use Rattle.java_statement_parts.specs.Scopes.{context_at, surroundings_at};
+ghost use Rattle.java_statement_scopes.specs.Scopes.{context_at, surroundings_at};
 ghost use Rattle.java_typed_statements.specs.StatementCases.{block_cases, catches_cases, finally_cases, statement_cases, statements_cases};
 ghost use Rattle.java_typed_statements.specs.StatementCompletions.{block_completion, catches_completion, completion, finally_completion, statements_completion};
 ghost use Rattle.java_typed_statements.specs.StatementContexts.{behind_resources, new_locals};
 ghost use Rattle.java_typed_statements.specs.StatementTrees.{block_tree, catch_forms, catch_trees, finally_tree, statement_trees};
 ghost use Rattle.java_typed_statements.specs.StatementTrees as trees_of;
-ghost use Rattle.java_typed_statements.specs.VariableCounts.{block_count, catches_count, finally_count, statements_count, variable_count};
+ghost use Rattle.java_statement_scopes.specs.VariableCounts.{block_count, catches_count, finally_count, statements_count, variable_count};
 
-use crate::counts::number_of_last;
 use crate::simple_statements::{
     break_statement, continue_statement, empty_statement, expression_statement, local_statement,
     return_statement, throw_statement,
 };
 use java_statement_parts::{
-    StatementScope, clause_head, covered_before, covered_within, for_start, push_condition,
-    push_expressions, push_optional, try_resources,
+    for_start, push_condition, push_expressions, push_optional, try_resources,
 };
 use java_statement_rules::{
     Completion, abrupt, and_then, do_completion, loop_completion, normal, one_of,
+};
+use java_statement_scopes::{
+    StatementScope, clause_head, covered_before, covered_within, number_of_last,
 };
 use java_syntax::{Block, Catch, Expr, ForStart, Resource, Stmt};
 use java_typed_trees::{

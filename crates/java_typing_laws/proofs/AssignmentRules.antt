@@ -20,10 +20,10 @@ use Rattle.java_typed_trees.specs.declared.shapes.TargetShape.{TargetShape}
 use Rattle.java_typed_trees.specs.declared.shapes.TargetShape.TheVariants as targets
 use Rattle.java_typed_trees.specs.Answers.{mismatch, type_of, value_at}
 use Rattle.java_typed_trees.specs.ExpressionTrees.{ExprTree, ExprTrees, Node, and_expression, no_expression}
-use Rattle.java_expression_rules.specs.JavaOperatorRulesOperators.{assigned_by, operator_assignment_by, postfix_step_by, prefix_step_by}
-use Rattle.java_expression_rules.specs.JavaMemberRulesAssignments.{assignment_by, assignment_of, target_in}
-use Rattle.java_expression_rules.specs.Assignments.{compound_by, is_own_place, postfix_by, prefix_by}
-use Rattle.java_expression_rules.specs.TypedParts.{parts_of, with_last}
+use Rattle.java_operator_expressions.specs.JavaOperatorRulesOperators.{assigned_by, operator_assignment_by, postfix_step_by, prefix_step_by}
+use Rattle.java_variable_rules.specs.JavaMemberRulesAssignments.{assignment_by, assignment_of, target_in}
+use Rattle.java_variable_rules.specs.Assignments.{compound_by, is_own_place, postfix_by, prefix_by}
+use Rattle.java_call_rules.specs.TypedParts.{parts_of, with_last}
 use Rattle.java_typing_laws.specs.TypingContexts.{TypingContext, type_of_number}
 use Rattle.java_typing_laws.specs.TypedTrees.{AreTypedTrees, IsPlaceOfShape, IsStored, IsTarget, IsTypedTree, Part, assigned_type, first_type, part_of, parts_in, second_type}
 use Rattle.java_typing_laws.proofs.Conversions.{IsNumber, assignable_law, no_test, none_is_some, number_operand, promoted_law, same_in}

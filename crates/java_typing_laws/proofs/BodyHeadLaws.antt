@@ -24,12 +24,13 @@ use Rattle.java_typed_trees.specs.Settling.{own_cases, tree_in}
 use Rattle.java_typed_trees.specs.StatementTrees.{statements}
 use Rattle.java_typed_trees.specs.WellFormed.{AreWellFormed, IsWellFormed, count}
 use Rattle.java_typed_trees.specs.WellFormedStatements.{AreWellFormedStatements, IsWellFormedStatement}
-use Rattle.java_expression_rules.specs.JavaMemberRulesAssignments.{assignment_by, assignment_of}
-use Rattle.java_expression_rules.specs.JavaMemberRulesNames.{implied_this}
-use Rattle.java_expression_rules.specs.Calls.{method_in, parameters_of}
-use Rattle.java_expression_rules.specs.Surroundings.{Surroundings}
-use Rattle.java_expression_rules.specs.TypedParts.{Typing}
-use Rattle.java_expression_rules.proofs.Whole.{AreTyped, IsTyped, IsWhole, of_both, whole_refusal}
+use Rattle.java_variable_rules.specs.JavaMemberRulesAssignments.{assignment_by, assignment_of}
+use Rattle.java_variable_rules.specs.JavaMemberRulesNames.{implied_this}
+use Rattle.java_call_rules.specs.CallParts.{method_in, parameters_of}
+use Rattle.java_call_rules.specs.Surroundings.{Surroundings}
+use Rattle.java_call_rules.specs.TypedParts.{Typing}
+use Rattle.java_variable_rules.proofs.VariableLaws.{AreTyped, IsTyped}
+use Rattle.java_call_rules.proofs.Whole.{IsWhole, of_both, whole_refusal}
 use Rattle.java_statement_parts.specs.Cases.{argument_cases, value_cases}
 use Rattle.java_statement_parts.specs.Typings.{tree, typing, typings, value_facts}
 use Rattle.java_statement_parts.proofs.Goodness.{AreValues, argument_trees_well, cons_is_nil, nil_left, nil_right, well_formed}

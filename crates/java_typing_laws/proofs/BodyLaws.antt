@@ -5,7 +5,7 @@ use Rattle.program_model.specs.declared.program.ParamSig.{ParamSig}
 use Rattle.java_syntax.specs.declared.declaration_trees.Param.{Param}
 use Rattle.java_typed_trees.specs.StatementTrees.{statements}
 use Rattle.java_typed_trees.specs.WellFormedStatements.{AreWellFormedStatements}
-use Rattle.java_expression_rules.proofs.Whole.{AreTyped, IsTyped}
+use Rattle.java_variable_rules.proofs.VariableLaws.{AreTyped, IsTyped}
 use Rattle.java_statement_parts.proofs.Goodness.{nil_left, nil_right, nil_second}
 use Rattle.java_bodies.specs.StatementCases.{statements_cases}
 use Rattle.java_bodies.specs.StatementTrees.{statement_trees}

@@ -31,13 +31,14 @@ use Rattle.java_typed_trees.specs.declared.shapes.CallShape.TheVariants as calls
 use Rattle.java_typed_trees.specs.declared.shapes.Shape.TheVariants as shapes
 use Rattle.java_typed_trees.specs.Answers.{mismatch, of_one, type_in, type_of, value_at}
 use Rattle.java_typed_trees.specs.ExpressionTrees.{ExprTree, ExprTrees, and_expression, expressions}
-use Rattle.java_expression_rules.specs.JavaMemberRulesCalls.{call_as, class_call_by, is_abstract_class, is_static_method, new_object_by, object_call_by, object_call_of, result_type, super_call_by, super_call_of, target_form, unqualified_call_by}
-use Rattle.java_expression_rules.specs.JavaMemberRulesNames.{result_in}
-use Rattle.java_expression_rules.specs.Arguments.{in_contexts}
-use Rattle.java_expression_rules.specs.Calls.{argument_trees, call_by, class_call, is_bodied, members_named, new_by, new_of, object_call, of_method, parameters_in, super_by, super_class, trees_for}
-use Rattle.java_expression_rules.specs.Names.{class_of_name}
-use Rattle.java_expression_rules.specs.Surroundings.{Surroundings}
-use Rattle.java_expression_rules.specs.TypedParts.{Typing, trees_in}
+use Rattle.java_call_rules.specs.JavaMemberRulesCalls.{call_as, class_call_by, is_abstract_class, is_static_method, new_object_by, object_call_by, object_call_of, result_type, super_call_by, super_call_of, target_form, unqualified_call_by}
+use Rattle.java_variable_rules.specs.JavaMemberRulesNames.{result_in}
+use Rattle.java_call_rules.specs.Arguments.{in_contexts}
+use Rattle.java_call_rules.specs.CallParts.{argument_trees, parameters_in, trees_for}
+use Rattle.java_call_rules.specs.Calls.{call_by, class_call, is_bodied, members_named, new_by, new_of, object_call, of_method, super_by, super_class}
+use Rattle.java_call_rules.specs.WrittenTypes.{class_of_name}
+use Rattle.java_call_rules.specs.Surroundings.{Surroundings}
+use Rattle.java_call_rules.specs.TypedParts.{Typing, trees_in}
 use Rattle.java_typing_laws.specs.TypingContexts.{IsInBody, TypingContext, context_with}
 use Rattle.java_typing_laws.specs.TypedTrees.{AreArguments, AreTypedTrees, IsCallTarget, IsTypedNode, Part, arguments_in, is_this_shape, part_of, parts_in}
 use Rattle.java_typing_laws.proofs.ConditionalRules.{type_of_class_is_plain}

@@ -11,8 +11,8 @@ use Rattle.program_model.specs.SuperTests.{is_class, is_under}
 use Rattle.java_syntax.specs.declared.names.Name.{Name}
 use Rattle.java_conversions.specs.Conditionals.{least_of_classes, least_upper_bound}
 use Rattle.java_conversions.specs.Types.{type_of_class}
-use Rattle.java_expression_rules.specs.Names.{class_of_name, unknown_name_cases}
-use Rattle.java_expression_rules.specs.Surroundings.{Surroundings}
+use Rattle.java_call_rules.specs.WrittenTypes.{class_of_name, unknown_name_cases}
+use Rattle.java_call_rules.specs.Surroundings.{Surroundings}
 use Rattle.java_statement_parts.proofs.Goodness.{IsKnown, cons_is_nil, nil_left, nil_right}
 use Rattle.java_statement_rules.specs.CatchClauses.{alternative_cases, alternatives_cases, caught_class, caught_classes, each_alternative_cases, exception_cases, if_exception, is_exception_class, joined_class, joined_classes, parameter_type}
 use Rattle.java_typing_laws.specs.CatchParameters.{HasCatchTypes}

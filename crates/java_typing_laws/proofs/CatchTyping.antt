@@ -19,8 +19,8 @@ use Rattle.class_members.proofs.Elements.{find-among}
 use Rattle.java_conversions.specs.Casts.{is_interface}
 use Rattle.java_conversions.specs.Conditionals.{is_minimal, is_minimal_class, is_shared, least_among, least_of_classes, least_upper_bound, or_else}
 use Rattle.java_conversions.specs.Types.{type_of_class}
-use Rattle.java_expression_rules.specs.Names.{class_of_name, unknown_name_cases}
-use Rattle.java_expression_rules.specs.Surroundings.{Surroundings}
+use Rattle.java_call_rules.specs.WrittenTypes.{class_of_name, unknown_name_cases}
+use Rattle.java_call_rules.specs.Surroundings.{Surroundings}
 use Rattle.java_statement_parts.proofs.Goodness.{cons_is_nil, nil_left, nil_right}
 use Rattle.java_statement_rules.specs.CatchClauses.{alternative_cases, alternatives_cases, caught_class, caught_classes, classes_named, each_alternative_cases, exception_cases, has_alternative, if_exception, is_exception_class, joined_class, joined_classes, parameter_type}
 use Rattle.java_statement_rules.specs.StatementCases.{unless}

@@ -22,9 +22,10 @@ use Rattle.java_typed_trees.specs.declared.facts.Answer.{Answer}
 use Rattle.java_typed_trees.specs.declared.facts.Answer.TheVariants as answers
 use Rattle.java_typed_trees.specs.declared.shapes.CallShape.TheVariants as calls
 use Rattle.java_typed_trees.specs.Answers.{mismatch, value_at}
-use Rattle.java_expression_rules.specs.JavaMemberRulesCalls.{call_as, is_static_method, object_call_by}
-use Rattle.java_expression_rules.specs.Calls.{members_named, method_in, object_call}
-use Rattle.java_expression_rules.specs.Surroundings.{Surroundings}
+use Rattle.java_call_rules.specs.JavaMemberRulesCalls.{call_as, is_static_method, object_call_by}
+use Rattle.java_call_rules.specs.Calls.{members_named, object_call}
+use Rattle.java_call_rules.specs.CallParts.{method_in}
+use Rattle.java_call_rules.specs.Surroundings.{Surroundings}
 use Rattle.java_statement_rules.specs.Resources.{close_name, closing_by, is_closeable}
 use Rattle.java_typing_laws.specs.TypingContexts.{HasTypedMembers}
 use Rattle.java_typing_laws.proofs.Conversions.{no_test, none_is_some, same_in}

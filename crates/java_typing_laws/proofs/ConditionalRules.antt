@@ -21,9 +21,9 @@ use Rattle.class_members.proofs.Elements.{find-among}
 use Rattle.java_typed_trees.specs.declared.facts.Facts.{Facts}
 use Rattle.java_typed_trees.specs.declared.shapes.Shape.TheVariants as shapes
 use Rattle.java_typed_trees.specs.Answers.{mismatch, type_of}
-use Rattle.java_expression_rules.specs.Folding.{folded_conditional}
-use Rattle.java_expression_rules.specs.Conditionals.{conditional_by, conditional_of, suit_context, type_in_context}
-use Rattle.java_expression_rules.specs.JavaOperatorRulesOperators.{constant_as}
+use Rattle.java_operator_expressions.specs.Folding.{folded_conditional}
+use Rattle.java_operator_expressions.specs.Conditionals.{conditional_by, conditional_of, suit_context, type_in_context}
+use Rattle.java_operator_expressions.specs.JavaOperatorRulesOperators.{constant_as}
 use Rattle.java_typing_laws.specs.TypingContexts.{HasTypedMembers, TypingContext}
 use Rattle.java_typing_laws.specs.TypedTrees.{Part}
 use Rattle.java_typing_laws.proofs.Conversions.{assignable_to_itself, binary_promoted_law, fits_law, from_branch, is_boolean_law, is_class_law, is_reference_law, is_same_element_law, is_same_primitive_law, narrow_is_numeric, no_test, none_is_some, null_is_assignable, number_is_assignable, number_result_law, same_in}

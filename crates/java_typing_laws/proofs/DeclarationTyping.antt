@@ -15,9 +15,9 @@ use Rattle.java_syntax.specs.StatementTrees.{LocalTree, VariableTree}
 use Rattle.java_typed_trees.specs.declared.scope.Local.{Local}
 use Rattle.java_typed_trees.specs.declared.statements.DeclaratorShape.{DeclaratorShape}
 use Rattle.java_typed_trees.specs.ExpressionTrees.{ExprTree, expressions}
-use Rattle.java_expression_rules.specs.Names.{cast_type, type_cases}
-use Rattle.java_expression_rules.specs.Surroundings.{Surroundings}
-use Rattle.java_expression_rules.proofs.Whole.{AreTyped, IsTyped}
+use Rattle.java_call_rules.specs.WrittenTypes.{cast_type, type_cases}
+use Rattle.java_call_rules.specs.Surroundings.{Surroundings}
+use Rattle.java_variable_rules.proofs.VariableLaws.{AreTyped, IsTyped}
 use Rattle.java_statement_parts.specs.Cases.{value_cases}
 use Rattle.java_statement_parts.specs.Typings.{value_facts}
 use Rattle.java_statement_parts.proofs.Goodness.{IsKnown, known_type, nil_left, nil_right}

@@ -25,8 +25,8 @@ use Rattle.java_typed_trees.specs.Exceptions.{undeclared_cases}
 use Rattle.java_typed_trees.specs.ExpressionTrees.{ExprTree, expressions}
 use Rattle.java_typed_trees.specs.WellFormed.{count}
 use Rattle.java_typed_trees.specs.WellFormedStatements.{initial_count}
-use Rattle.java_expression_rules.specs.Surroundings.{Surroundings}
-use Rattle.java_expression_rules.proofs.Whole.{IsTyped}
+use Rattle.java_call_rules.specs.Surroundings.{Surroundings}
+use Rattle.java_variable_rules.proofs.VariableLaws.{IsTyped}
 use Rattle.java_statement_parts.specs.Cases.{value_cases}
 use Rattle.java_statement_parts.specs.Typings.{tree, value_facts}
 use Rattle.java_statement_parts.proofs.Goodness.{cons_is_nil, nil_left, nil_right}

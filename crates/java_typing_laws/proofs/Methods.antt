@@ -25,11 +25,11 @@ use Rattle.java_overloads.specs.declared.choices.Choice.TheVariants as choices
 use Rattle.java_overloads.specs.Overloads.{choice_among, choice_in, is_most_specific, is_preferred, most_specific, preferred}
 use Rattle.java_typed_trees.specs.declared.facts.Answer.{Answer}
 use Rattle.java_typed_trees.specs.declared.facts.Answer.TheVariants as answers
-use Rattle.java_expression_rules.specs.JavaMemberRulesCalls.{is_static_kind, is_static_method}
-use Rattle.java_expression_rules.specs.declared.overloads.MethodResolution.TheVariants as resolutions
-use Rattle.java_expression_rules.specs.Arguments.{applicable_to, argument_types, choice_for, each_value_fits, takes_values}
-use Rattle.java_expression_rules.specs.Calls.{by_resolution, of_method, resolution_in}
-use Rattle.java_expression_rules.specs.TypedParts.{Typing, have_types}
+use Rattle.java_call_rules.specs.JavaMemberRulesCalls.{is_static_kind, is_static_method}
+use Rattle.java_call_rules.specs.declared.overloads.MethodResolution.TheVariants as resolutions
+use Rattle.java_call_rules.specs.Arguments.{applicable_to, argument_types, each_value_fits, takes_values}
+use Rattle.java_call_rules.specs.Calls.{choice_for, by_resolution, of_method, resolution_in}
+use Rattle.java_call_rules.specs.TypedParts.{Typing, have_types}
 use Rattle.java_typing_laws.specs.TypingContexts.{HasTypedMembers}
 use Rattle.java_typing_laws.proofs.Conversions.{no_test, none_is_some, same_in}
 use Rattle.java_typing_laws.proofs.Members.{all_has}

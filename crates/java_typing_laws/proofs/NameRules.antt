@@ -33,13 +33,13 @@ use Rattle.java_typed_trees.specs.declared.shapes.Shape.TheVariants as shapes
 use Rattle.java_typed_trees.specs.Answers.{constant_at, mismatch, type_in, type_of, typed_as, value_at}
 use Rattle.java_typed_trees.specs.ExpressionTrees.{ExprTrees, no_expression}
 use Rattle.java_typed_trees.specs.Names.{meaning_among}
-use Rattle.java_expression_rules.specs.Arrays.{length_at}
-use Rattle.java_expression_rules.specs.JavaMemberRulesFields.{class_field_by, field_access_by, instance_field, member_access, static_field}
-use Rattle.java_expression_rules.specs.JavaMemberRulesNames.{field_of, name_by, own_field, result_in, this_by, variable_of}
-use Rattle.java_expression_rules.specs.Calls.{with_implied_this}
-use Rattle.java_expression_rules.specs.Fields.{access_of, class_access, field_of_type, is_length, object_access}
-use Rattle.java_expression_rules.specs.Names.{field_constant, field_meaning, identifier_by, member_meaning, name_meaning}
-use Rattle.java_expression_rules.specs.Surroundings.{Surroundings}
+use Rattle.java_operator_expressions.specs.Arrays.{length_at}
+use Rattle.java_variable_rules.specs.JavaMemberRulesFields.{class_field_by, field_access_by, instance_field, member_access, static_field}
+use Rattle.java_variable_rules.specs.JavaMemberRulesNames.{field_of, name_by, own_field, result_in, this_by, variable_of}
+use Rattle.java_call_rules.specs.CallParts.{with_implied_this}
+use Rattle.java_variable_rules.specs.Fields.{access_of, class_access, field_of_type, is_length, object_access}
+use Rattle.java_variable_rules.specs.Names.{field_constant, field_meaning, identifier_by, member_meaning, name_meaning}
+use Rattle.java_call_rules.specs.Surroundings.{Surroundings}
 use Rattle.java_typing_laws.specs.TypingContexts.{IsInBody, IsVariableOf, TypingContext, context_with, type_of_number}
 use Rattle.java_typing_laws.specs.TypedTrees.{AreTypedTrees, Part, parts_in}
 use Rattle.java_typing_laws.proofs.Members.{IsMemberOf, each_some, field_named_law, of_known}

@@ -27,10 +27,10 @@ use Rattle.java_typed_trees.specs.declared.facts.Facts.{Facts}
 use Rattle.java_typed_trees.specs.declared.shapes.Shape.{Shape}
 use Rattle.java_typed_trees.specs.declared.shapes.Shape.TheVariants as shapes
 use Rattle.java_typed_trees.specs.Answers.{mismatch, of_one, of_three, of_two, type_of, value_at}
-use Rattle.java_expression_rules.specs.Arrays.{array_of, element_by, element_of, length_at, new_array_by, new_array_of}
-use Rattle.java_expression_rules.specs.Casts.{cast_as, cast_by, instance_of, instance_of_by}
-use Rattle.java_expression_rules.specs.Literals.{is_past_limit, literal_as, literal_by, literal_in, literal_under_minus_by, type_of_literal}
-use Rattle.java_expression_rules.specs.JavaOperatorRulesOperators.{binary_by, binary_of, constant_as, unary_by, unary_of}
+use Rattle.java_operator_expressions.specs.Arrays.{array_of, element_by, element_of, length_at, new_array_by, new_array_of}
+use Rattle.java_operator_expressions.specs.Casts.{cast_as, cast_by, instance_of, instance_of_by}
+use Rattle.java_operator_expressions.specs.Literals.{is_past_limit, literal_as, literal_by, literal_in, literal_under_minus_by, type_of_literal}
+use Rattle.java_operator_expressions.specs.JavaOperatorRulesOperators.{binary_by, binary_of, constant_as, unary_by, unary_of}
 use Rattle.java_typing_laws.specs.TypingContexts.{TypingContext}
 use Rattle.java_typing_laws.specs.TypedTrees.{IsOfType, IsTypedNode, IsUnary, Part, first_type, second_type}
 use Rattle.java_typing_laws.proofs.Conversions.{is_index_law, no_test, none_is_some, same_in}

@@ -9,8 +9,8 @@ use Rattle.java_typed_trees.specs.ExpressionTrees.{ExprTree, expressions}
 use Rattle.java_typed_trees.specs.StatementTrees.{StmtTree, statements}
 use Rattle.java_typed_trees.specs.WellFormed.{AreWellFormed, IsWellFormed, count}
 use Rattle.java_typed_trees.specs.WellFormedStatements.{AreWellFormedStatements, count_statements}
-use Rattle.java_expression_rules.specs.Surroundings.{Surroundings}
-use Rattle.java_expression_rules.proofs.Whole.{AreTyped, IsTyped}
+use Rattle.java_call_rules.specs.Surroundings.{Surroundings}
+use Rattle.java_variable_rules.proofs.VariableLaws.{AreTyped, IsTyped}
 use Rattle.java_statement_parts.specs.Cases.{value_cases}
 use Rattle.java_statement_parts.specs.Typings.{tree, typing}
 use Rattle.java_statement_parts.proofs.Goodness.{IsKnown, cons_is_nil, well_formed}

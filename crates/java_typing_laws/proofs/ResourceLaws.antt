@@ -20,11 +20,13 @@ use Rattle.java_typed_trees.specs.Answers.{mismatch, value_at}
 use Rattle.java_typed_trees.specs.ExpressionTrees.{expressions}
 use Rattle.java_typed_trees.specs.Settling.{own_cases}
 use Rattle.java_typed_trees.specs.WellFormed.{AreWellFormed, count}
-use Rattle.java_expression_rules.specs.JavaMemberRulesCalls.{call_as, is_static_method, object_call_by}
-use Rattle.java_expression_rules.specs.Arguments.{argument_types, choice_for}
-use Rattle.java_expression_rules.specs.Calls.{by_resolution, members_named, method_in, method_of_shape, object_call, resolution_in}
-use Rattle.java_expression_rules.specs.Surroundings.{Surroundings}
-use Rattle.java_expression_rules.proofs.Whole.{AreTyped, IsTyped, of_both}
+use Rattle.java_call_rules.specs.JavaMemberRulesCalls.{call_as, is_static_method, object_call_by}
+use Rattle.java_call_rules.specs.Arguments.{argument_types}
+use Rattle.java_call_rules.specs.Calls.{choice_for, by_resolution, members_named, object_call, resolution_in}
+use Rattle.java_call_rules.specs.CallParts.{method_in, method_of_shape}
+use Rattle.java_call_rules.specs.Surroundings.{Surroundings}
+use Rattle.java_variable_rules.proofs.VariableLaws.{AreTyped, IsTyped}
+use Rattle.java_call_rules.proofs.Whole.{of_both}
 use Rattle.java_statement_parts.specs.Cases.{value_cases}
 use Rattle.java_statement_parts.specs.Typings.{value_facts}
 use Rattle.java_statement_parts.proofs.Goodness.{IsKnown, cons_is_nil, known_type, nil_left, nil_right, nil_second}

@@ -15,9 +15,9 @@ use Rattle.program_model.specs.Lookups.{method_at}
 use Rattle.program_model.specs.Typing.{IsClose}
 use Rattle.java_syntax.specs.StatementTrees.{ResourceTree}
 use Rattle.java_typed_trees.specs.ExpressionTrees.{expressions}
-use Rattle.java_expression_rules.specs.Calls.{method_in}
-use Rattle.java_expression_rules.specs.Surroundings.{Surroundings}
-use Rattle.java_expression_rules.proofs.Whole.{IsTyped}
+use Rattle.java_call_rules.specs.CallParts.{method_in}
+use Rattle.java_call_rules.specs.Surroundings.{Surroundings}
+use Rattle.java_variable_rules.proofs.VariableLaws.{IsTyped}
 use Rattle.java_statement_parts.specs.Cases.{value_cases}
 use Rattle.java_statement_parts.specs.Typings.{value_facts}
 use Rattle.java_statement_parts.proofs.Goodness.{known_type, nil_left, nil_right}

@@ -10,8 +10,8 @@ use Rattle.java_syntax.specs.StatementTrees as starts
 use Rattle.java_typed_trees.specs.ExpressionTrees.{expressions}
 use Rattle.java_typed_trees.specs.WellFormed.{AreWellFormed, count}
 use Rattle.java_typed_trees.specs.WellFormedStatements.{initial_count, one_if}
-use Rattle.java_expression_rules.specs.Surroundings.{Surroundings}
-use Rattle.java_expression_rules.proofs.Whole.{AreTyped, IsTyped}
+use Rattle.java_call_rules.specs.Surroundings.{Surroundings}
+use Rattle.java_variable_rules.proofs.VariableLaws.{AreTyped, IsTyped}
 use Rattle.java_statement_parts.specs.Cases.{cases, value_cases}
 use Rattle.java_statement_parts.specs.Typings.{value_facts}
 use Rattle.java_statement_parts.proofs.Goodness.{nil_left, nil_right}

@@ -15,7 +15,7 @@ use Rattle.java_typed_trees.specs.ExpressionTrees as typed
 use Rattle.java_typed_trees.specs.StatementTrees.{statements}
 use Rattle.java_typed_trees.specs.WellFormed.{AreWellFormed, count}
 use Rattle.java_typed_trees.specs.WellFormedStatements.{AreWellFormedStatements, IsWellFormedStatement, count_statements, initial_count, one_if}
-use Rattle.java_expression_rules.proofs.Whole.{AreTyped, IsTyped}
+use Rattle.java_variable_rules.proofs.VariableLaws.{AreTyped, IsTyped}
 use Rattle.java_statement_parts.proofs.Goodness.{nil_first, nil_left, nil_right, nil_second}
 use Rattle.java_statement_parts.proofs.WellTyped.{well_typed}
 use Rattle.java_statement_rules.specs.declared.completion.Completion.{Completion}

@@ -18,8 +18,8 @@ use Rattle.java_typed_trees.specs.declared.scope.Local.{Local}
 use Rattle.java_typed_trees.specs.ExpressionTrees as values
 use Rattle.java_typed_trees.specs.StatementTrees.{CatchForm, statements}
 use Rattle.java_typed_trees.specs.StatementTrees as typed
-use Rattle.java_expression_rules.specs.Surroundings.{Surroundings}
-use Rattle.java_expression_rules.proofs.Whole.{IsTyped}
+use Rattle.java_call_rules.specs.Surroundings.{Surroundings}
+use Rattle.java_variable_rules.proofs.VariableLaws.{IsTyped}
 use Rattle.java_statement_parts.proofs.Goodness.{nil_first, nil_left, nil_right, nil_second}
 use Rattle.java_typing_laws.specs.TypingContexts.{IsVariableOf, TypingContext, type_of_number}
 use Rattle.java_typing_laws.specs.TypedTrees.{parts_in}

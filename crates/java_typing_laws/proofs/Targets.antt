@@ -31,22 +31,24 @@ use Rattle.java_typed_trees.specs.declared.shapes.TargetShape.{TargetShape}
 use Rattle.java_typed_trees.specs.Answers.{of_one, of_three, of_two, type_in, type_of, typed_as}
 use Rattle.java_typed_trees.specs.ExpressionTrees.{ExprTree, ExprTrees, no_expression}
 use Rattle.java_typed_trees.specs.Settling.{tree_in}
-use Rattle.java_expression_rules.specs.Arrays.{array_of, element_by, element_of, new_array_by, new_array_of}
-use Rattle.java_expression_rules.specs.Casts.{cast_as, cast_by, instance_of_by}
-use Rattle.java_expression_rules.specs.Conditionals.{conditional_by}
-use Rattle.java_expression_rules.specs.Literals.{is_past_limit, literal_by}
-use Rattle.java_expression_rules.specs.JavaOperatorRulesOperators.{assigned_by, binary_by, binary_of, constant_as, unary_by}
-use Rattle.java_expression_rules.specs.JavaMemberRulesAssignments.{assignment_by, assignment_of}
-use Rattle.java_expression_rules.specs.JavaMemberRulesCalls.{class_call_by, is_abstract_class, is_static_method, new_object_by, object_call_by, super_call_by, unqualified_call_by}
-use Rattle.java_expression_rules.specs.JavaMemberRulesFields.{class_field_by, instance_field, member_access, static_field}
-use Rattle.java_expression_rules.specs.JavaMemberRulesNames.{field_of, name_by, result_in, this_by, variable_of}
-use Rattle.java_expression_rules.specs.Assignments.{assigned_target, compound_by, is_through_this, may_update, postfix_by, prefix_by}
-use Rattle.java_expression_rules.specs.Calls.{call_by, class_call, is_bodied, is_written_this, members_named, new_by, new_of, object_call, super_by, super_class, with_implied_this}
-use Rattle.java_expression_rules.specs.Fields.{class_access, field_of_type, is_length, object_access, object_access_typing}
-use Rattle.java_expression_rules.specs.Names.{cast_type, class_meant, class_of_name, element_type, field_constant, field_meaning, identifier_by, name_meaning, tested_type}
-use Rattle.java_expression_rules.specs.Operators.{operator_of, step_operator_of, unary_operator_of}
-use Rattle.java_expression_rules.specs.Surroundings.{Surroundings}
-use Rattle.java_expression_rules.specs.TypedParts.{Typing, one, operand, shape_in, shape_of, typing_by}
+use Rattle.java_operator_expressions.specs.Arrays.{array_of, element_by, element_of, new_array_by, new_array_of}
+use Rattle.java_operator_expressions.specs.Casts.{cast_as, cast_by, instance_of_by}
+use Rattle.java_operator_expressions.specs.Conditionals.{conditional_by}
+use Rattle.java_operator_expressions.specs.Literals.{is_past_limit, literal_by}
+use Rattle.java_operator_expressions.specs.JavaOperatorRulesOperators.{assigned_by, binary_by, binary_of, constant_as, unary_by}
+use Rattle.java_variable_rules.specs.JavaMemberRulesAssignments.{assignment_by, assignment_of}
+use Rattle.java_call_rules.specs.JavaMemberRulesCalls.{class_call_by, is_abstract_class, is_static_method, new_object_by, object_call_by, super_call_by, unqualified_call_by}
+use Rattle.java_variable_rules.specs.JavaMemberRulesFields.{class_field_by, instance_field, member_access, static_field}
+use Rattle.java_variable_rules.specs.JavaMemberRulesNames.{field_of, name_by, result_in, this_by, variable_of}
+use Rattle.java_variable_rules.specs.Assignments.{assigned_target, compound_by, is_through_this, may_update, postfix_by, prefix_by, is_written_this}
+use Rattle.java_call_rules.specs.Calls.{call_by, class_call, is_bodied, members_named, new_by, new_of, object_call, super_by, super_class}
+use Rattle.java_call_rules.specs.CallParts.{with_implied_this}
+use Rattle.java_variable_rules.specs.Fields.{class_access, field_of_type, is_length, object_access, object_access_typing}
+use Rattle.java_call_rules.specs.WrittenTypes.{cast_type, class_of_name, element_type, tested_type}
+use Rattle.java_variable_rules.specs.Names.{class_meant, field_constant, field_meaning, identifier_by, name_meaning}
+use Rattle.java_operator_expressions.specs.Operators.{operator_of, step_operator_of, unary_operator_of}
+use Rattle.java_call_rules.specs.Surroundings.{Surroundings}
+use Rattle.java_call_rules.specs.TypedParts.{Typing, one, operand, shape_in, shape_of, typing_by}
 use Rattle.java_statement_parts.specs.Targets.{call_on, field_on, target_typing}
 use Rattle.java_statement_parts.specs.Typings.{answer_under, operand_typing, typing, typings}
 use Rattle.java_typing_laws.specs.TypedTrees.{first_is_this, is_this_shape, part_of, parts_in}

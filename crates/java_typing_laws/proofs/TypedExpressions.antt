@@ -1,7 +1,7 @@
 -- The typed tree of each expression is typed, by induction on the expression.
 use Rattle.java_typing_laws.proofs.Methods.{taken_law}
 use Rattle.java_typing_laws.specs.LaidParts.{ArePassedTo}
-use Rattle.java_expression_rules.specs.Arguments.{argument_types, in_contexts, takes_values}
+use Rattle.java_call_rules.specs.Arguments.{argument_types, in_contexts, takes_values}
 use Rattle.program_model.specs.Lookups.{method_at}
 use Rattle.program_model.specs.declared.program.Method.{Method}
 use Rattle.program_model.specs.declared.kinds.MethodId.{MethodId}
@@ -22,20 +22,22 @@ use Rattle.java_literals.specs.Values.{literal_value}
 use Rattle.class_names.specs.WrittenTypes.{written_type}
 use Rattle.java_typed_trees.specs.Answers.{type_of}
 use Rattle.java_typed_trees.specs.ExpressionTrees.{and_expression, no_expression, expressions}
-use Rattle.java_expression_rules.specs.Arrays.{element_by, new_array_by}
-use Rattle.java_expression_rules.specs.Casts.{cast_by, instance_of_by}
-use Rattle.java_expression_rules.specs.Conditionals.{conditional_by}
-use Rattle.java_expression_rules.specs.Literals.{literal_by, literal_under_minus_by}
-use Rattle.java_expression_rules.specs.JavaOperatorRulesOperators.{binary_by, unary_by}
-use Rattle.java_expression_rules.specs.JavaMemberRulesAssignments.{assignment_by}
-use Rattle.java_expression_rules.specs.JavaMemberRulesNames.{this_by}
-use Rattle.java_expression_rules.specs.Assignments.{assigned_target, compound_by, implied_one, is_through_this, may_assign, may_update, postfix_by, prefix_by}
-use Rattle.java_expression_rules.specs.Calls.{argument_trees, call_by, class_call, is_written_this, new_by, object_call, super_by, with_implied_this, parameters_in, trees_for}
-use Rattle.java_expression_rules.specs.Fields.{class_access, object_access}
-use Rattle.java_expression_rules.specs.Names.{cast_type, class_meant, element_type, identifier_by, is_qualified, tested_type}
-use Rattle.java_expression_rules.specs.Operators.{operator_of, step_operator_of, unary_operator_of}
-use Rattle.java_expression_rules.specs.Surroundings.{Surroundings}
-use Rattle.java_expression_rules.specs.TypedParts.{Typing, one, operand, parts_of, shape_of, three, two, typing_by, with_last, have_types, trees_in}
+use Rattle.java_operator_expressions.specs.Arrays.{element_by, new_array_by}
+use Rattle.java_operator_expressions.specs.Casts.{cast_by, instance_of_by}
+use Rattle.java_operator_expressions.specs.Conditionals.{conditional_by}
+use Rattle.java_operator_expressions.specs.Literals.{literal_by, literal_under_minus_by}
+use Rattle.java_operator_expressions.specs.JavaOperatorRulesOperators.{binary_by, unary_by}
+use Rattle.java_variable_rules.specs.JavaMemberRulesAssignments.{assignment_by}
+use Rattle.java_variable_rules.specs.JavaMemberRulesNames.{this_by}
+use Rattle.java_variable_rules.specs.Assignments.{assigned_target, compound_by, implied_one, is_through_this, may_assign, may_update, postfix_by, prefix_by, is_written_this}
+use Rattle.java_call_rules.specs.CallParts.{argument_trees, with_implied_this, parameters_in, trees_for}
+use Rattle.java_call_rules.specs.Calls.{call_by, class_call, new_by, object_call, super_by}
+use Rattle.java_variable_rules.specs.Fields.{class_access, object_access}
+use Rattle.java_call_rules.specs.WrittenTypes.{cast_type, element_type, is_qualified, tested_type}
+use Rattle.java_variable_rules.specs.Names.{class_meant, identifier_by}
+use Rattle.java_operator_expressions.specs.Operators.{operator_of, step_operator_of, unary_operator_of}
+use Rattle.java_call_rules.specs.Surroundings.{Surroundings}
+use Rattle.java_call_rules.specs.TypedParts.{Typing, one, operand, parts_of, shape_of, three, two, typing_by, with_last, have_types, trees_in}
 use Rattle.java_statement_parts.specs.Targets.{call_on, field_on, target_typing}
 use Rattle.java_statement_parts.specs.Typings.{answer_under, answer_under_minus, operand_typing, tree, typing, typings, value_facts}
 use Rattle.java_typing_laws.specs.TypingContexts.{IfDeclarable, IsInBody, TypingContext, context_with}

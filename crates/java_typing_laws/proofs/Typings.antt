@@ -19,8 +19,8 @@ use Rattle.java_typed_trees.specs.declared.shapes.Shape.{Shape}
 use Rattle.java_typed_trees.specs.declared.shapes.Shape.TheVariants as shapes
 use Rattle.java_typed_trees.specs.Answers.{type_in, type_of, value_type}
 use Rattle.java_typed_trees.specs.ExpressionTrees.{ExprTree, ExprTrees, Node, and_expression, expressions, no_expression}
-use Rattle.java_expression_rules.specs.Arguments.{argument_types, each_value_fits, in_context, in_contexts, operands_in_context, value_types}
-use Rattle.java_expression_rules.specs.TypedParts.{Typing, facts_of, has_type, have_types, operand, shape_of, trees_in, typing_by}
+use Rattle.java_call_rules.specs.Arguments.{argument_types, each_value_fits, in_context, in_contexts, operands_in_context, value_types}
+use Rattle.java_call_rules.specs.TypedParts.{Typing, facts_of, has_type, have_types, operand, shape_of, trees_in, typing_by}
 use Rattle.java_typing_laws.specs.TypingContexts.{TypingContext}
 use Rattle.java_typing_laws.specs.TypedTrees.{AreArguments, AreTypedTrees, FitsIn, IsTypedTree, part_of, parts_in}
 use Rattle.java_typing_laws.proofs.Conversions.{assignable_to_itself, fits_law, no_test}

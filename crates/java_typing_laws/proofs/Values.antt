@@ -16,8 +16,8 @@ use Rattle.java_typed_trees.specs.declared.facts.Facts.{Facts}
 use Rattle.java_typed_trees.specs.declared.scope.Local.{Local}
 use Rattle.java_typed_trees.specs.Answers.{type_of}
 use Rattle.java_typed_trees.specs.ExpressionTrees.{ExprTree, expressions}
-use Rattle.java_expression_rules.specs.Surroundings.{Surroundings}
-use Rattle.java_expression_rules.proofs.Whole.{AreTyped, IsTyped}
+use Rattle.java_call_rules.specs.Surroundings.{Surroundings}
+use Rattle.java_variable_rules.proofs.VariableLaws.{AreTyped, IsTyped}
 use Rattle.java_statement_parts.specs.Cases.{value_cases}
 use Rattle.java_statement_parts.specs.Typings.{tree, value_facts}
 use Rattle.java_statement_parts.proofs.WellTyped.{has_type}

@@ -13,8 +13,8 @@ use Rattle.java_syntax.specs.AnnotationTrees.{ModifierTree}
 use Rattle.java_syntax.specs.StatementTrees.{BlockTree, Braces, CatchTrees, ForStartTree, LocalTree, MaybeBlock, MaybeStmt, ResourceTree, StmtTree, StmtTrees, VariableTree, no_catch, and_catch, no_else, some_else, no_finally, some_finally, no_statement, and_statement}
 use Rattle.java_syntax.specs.StatementTrees as syntax
 use Rattle.java_conversions.specs.Types.{type_of_class}
-use Rattle.java_expression_rules.specs.Names.{cast_type, class_of_name, type_cases}
-use Rattle.java_expression_rules.specs.Surroundings.{Surroundings}
+use Rattle.java_call_rules.specs.WrittenTypes.{cast_type, class_of_name, type_cases}
+use Rattle.java_call_rules.specs.Surroundings.{Surroundings}
 use Rattle.java_statement_parts.proofs.Goodness.{known_type, nil_first, nil_left, nil_right, nil_second}
 use Rattle.java_statement_rules.specs.declared.completion.Completion.{Completion}
 use Rattle.java_statement_rules.specs.CatchClauses.{alternatives_cases, parameter_type}

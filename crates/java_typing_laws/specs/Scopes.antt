@@ -12,8 +12,8 @@ use Rattle.java_syntax.specs.declared.names.Typ.{Typ}
 use Rattle.class_names.specs.declared.class_name.ClassName.{ClassName}
 use Rattle.class_names.specs.Meanings.{CompilationUnit, meaning_of}
 use Rattle.class_names.specs.WrittenTypes.{written_type}
-use Rattle.java_expression_rules.specs.Names.{class_in}
-use Rattle.java_expression_rules.specs.Surroundings.{Surroundings}
+use Rattle.java_call_rules.specs.WrittenTypes.{class_in}
+use Rattle.java_call_rules.specs.Surroundings.{Surroundings}
 use Rattle.java_statement_parts.specs.Accepted.{HaveTypes}
 use Rattle.java_typing_laws.specs.CatchParameters.{HasCatchTypes}
 use Rattle.java_bodies.specs.Declarations.{BodyVariable}

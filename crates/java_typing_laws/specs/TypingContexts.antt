@@ -18,7 +18,7 @@ use Rattle.java_syntax.specs.declared.names.Typ.{Typ}
 use Rattle.class_names.specs.WrittenTypes.{written_type}
 use Rattle.java_typed_trees.specs.declared.scope.Local.{Local}
 use Rattle.java_typed_trees.specs.Answers.{type_in}
-use Rattle.java_expression_rules.specs.Surroundings.{Surroundings}
+use Rattle.java_call_rules.specs.Surroundings.{Surroundings}
 
 pub record TypingContext : Type 0 where
   pub program : Program

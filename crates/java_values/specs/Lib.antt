@@ -1,6 +1,3 @@
 pub mod Values
 pub mod Kinds
-pub mod Nodes
-pub mod Operators
-pub mod Parts
-pub mod Closed
+pub mod Leaves

@@ -1,123 +1,20 @@
-//! What the actions of the grammar work on: the values of the stack and their kinds, and what trees are made of: nodes
-//! with their levels, operators, names, lists, annotations, statements.
+//! The values of the stack on which the actions of the grammar work, their kinds, and what takes them off it and leaves them there.
 #![tactic(auto)]
 
-mod annotation_parts;
-mod lists;
-mod names;
-mod nodes;
-mod operations;
-mod operators;
+mod leaves;
 mod pops;
-mod statement_parts;
 mod values;
 
-pub use annotation_parts::annotation;
-pub use annotation_parts::annotation_as_value;
-pub use annotation_parts::argument;
-pub use annotation_parts::expression_value;
-pub use annotation_parts::modifier;
-pub use annotation_parts::place_of_annotation;
-pub use annotation_parts::values_as_value;
-pub use annotation_parts::word;
-pub use lists::added;
-pub use lists::appended;
-pub use lists::none;
-pub use lists::put;
-pub use names::extended;
-pub use names::head;
-pub use names::name_at;
-pub use names::name_expression;
-pub use names::named_call;
-pub use names::primitive_at;
-pub use names::selector;
-pub use names::type_named;
-pub use names::type_of;
-pub use names::with_identifier;
-pub use nodes::BuildFail;
-pub use nodes::assignment;
-pub use nodes::cast;
-pub use nodes::compound;
-pub use nodes::conditional;
-pub use nodes::index;
-pub use nodes::instance;
-pub use nodes::literal;
-pub use nodes::new_array;
-pub use nodes::new_object;
-pub use nodes::parenthesized;
-pub use nodes::postfix_step;
-pub use nodes::prefix;
-pub use nodes::prefix_step;
-pub use nodes::super_call;
-pub use nodes::this;
-pub use operations::COMPARISON;
-pub use operations::Closed;
-pub use operations::LOOSEST;
-pub use operations::close_operations;
-pub use operations::level_of;
-pub use operations::with_operator;
-pub use operators::compound_operator;
-pub use operators::infix_operator;
-pub use operators::prefix_operator;
-pub use operators::step_operator;
-pub use pops::leave;
-pub use pops::pop_annotation;
-pub use pops::pop_annotation_value;
-pub use pops::pop_annotation_values;
-pub use pops::pop_annotations;
-pub use pops::pop_arguments;
-pub use pops::pop_block;
-pub use pops::pop_call;
-pub use pops::pop_catches;
-pub use pops::pop_constructor_body;
-pub use pops::pop_expression;
-pub use pops::pop_expressions;
-pub use pops::pop_for_start;
-pub use pops::pop_identifiers;
-pub use pops::pop_imports;
-pub use pops::pop_local;
-pub use pops::pop_members;
-pub use pops::pop_modifiers;
-pub use pops::pop_name;
-pub use pops::pop_names;
-pub use pops::pop_operations;
-pub use pops::pop_optional_expression;
-pub use pops::pop_optional_name;
-pub use pops::pop_optional_type;
-pub use pops::pop_parameters;
-pub use pops::pop_parenthesized;
-pub use pops::pop_place;
-pub use pops::pop_resources;
-pub use pops::pop_statement;
-pub use pops::pop_statements;
-pub use pops::pop_super_call;
-pub use pops::pop_token;
-pub use pops::pop_typ;
-pub use pops::pop_types;
-pub use pops::pop_unit;
-pub use pops::pop_units;
-pub use pops::pop_variables;
-pub use statement_parts::block;
-pub use statement_parts::block_statement;
-pub use statement_parts::catch_clause;
-pub use statement_parts::do_statement;
-pub use statement_parts::for_statement;
-pub use statement_parts::if_else_statement;
-pub use statement_parts::if_statement;
-pub use statement_parts::initialized;
-pub use statement_parts::local;
-pub use statement_parts::plain_variable;
-pub use statement_parts::resource;
-pub use statement_parts::statement;
-pub use statement_parts::try_finally_statement;
-pub use statement_parts::try_statement;
-pub use statement_parts::unit;
-pub use statement_parts::while_statement;
-pub use values::Identifiers;
-pub use values::Lexeme;
-pub use values::Nested;
-pub use values::OpenOperation;
-pub use values::Parameters;
-pub use values::Parenthesized;
-pub use values::Place;
-pub use values::Value;
+pub use leaves::{
+    leave_annotation_value, leave_expression, leave_member, leave_modifier, leave_statement,
+};
+pub use pops::{
+    leave, pop_annotation, pop_annotation_value, pop_annotation_values, pop_annotations,
+    pop_arguments, pop_block, pop_call, pop_catches, pop_constructor_body, pop_expression,
+    pop_expressions, pop_for_start, pop_identifiers, pop_imports, pop_local, pop_members,
+    pop_modifiers, pop_name, pop_names, pop_operations, pop_optional_expression, pop_optional_name,
+    pop_optional_type, pop_parameters, pop_parenthesized, pop_place, pop_resources, pop_statement,
+    pop_statements, pop_super_call, pop_token, pop_typ, pop_types, pop_unit, pop_units,
+    pop_variables,
+};
+pub use values::{Parameters, Place, Value};

@@ -3,15 +3,15 @@ ghost use Rattle.java_syntax.specs.ExpressionTrees.{expr_of};
 ghost use Rattle.java_syntax.specs.AnnotationTrees.{anno_of, anno_value_of};
 ghost use Rattle.java_syntax.specs.StatementTrees.{local_of, stmt_of, block_of, for_start_of};
 ghost use Rattle.java_syntax.specs.DeclarationTrees.{super_call_of, constructor_body_of, member_of, class_of, unit_of};
-ghost use Rattle.java_values.specs.Values.{values_of, value_of, lexeme_in, nested_of, exprs_in, annos_in, arguments_in, anno_values_in, modifiers_in, variables_in, stmts_in, resources_in, catches_in, open_operation_of, identifiers_of, optional_in, parenthesized_of, parameters_of};
+ghost use Rattle.java_nested_trees.specs.NestedTrees.{lexeme_in, nested_of, exprs_in, annos_in, arguments_in, anno_values_in, modifiers_in, variables_in, stmts_in, resources_in, catches_in, open_operation_of, identifiers_of, optional_in, parenthesized_of};
+ghost use Rattle.java_values.specs.Values.{values_of, value_of, parameters_of};
 ghost use Rattle.java_values.specs.Values as kinds;
 ghost use Rattle.java_values.specs.Kinds.{IsTop, kind_of};
-ghost use Rattle.java_values.specs.Nodes.{Gives, Made};
+ghost use Rattle.java_nested_trees.specs.Outcomes.{Gives, Made};
 
-use crate::lists::put;
-use crate::nodes::BuildFail;
-use crate::values::{
-    Identifiers, Lexeme, Nested, OpenOperation, Parameters, Parenthesized, Place, Value,
+use crate::values::{Parameters, Place, Value};
+use java_nested_trees::{
+    BuildFail, Identifiers, Lexeme, Nested, OpenOperation, Parenthesized, put,
 };
 use java_syntax::{
     Anno, AnnoArgument, AnnoValue, Block, Catch, ClassDecl, ConstructorBody, Expr, ForStart,

@@ -2,7 +2,7 @@
 use Rattle.std.specs.Prelude.{ℕ, List, ◌++◌, codes}
 use Rattle.program_model.specs.declared.program.Program.{Program}
 use Rattle.program_texts.specs.Texts.{class_text, line_text, place_text}
-use Rattle.java_control.specs.declared.fact.Origin.{Origin}
+use Rattle.control_actions.specs.declared.fact.Origin.{Origin}
 use Rattle.leak_report.specs.declared.report.Report.{Report}
 use Rattle.leak_report.specs.Words.{origin_word, rule_word}
 use Rattle.leak_report.specs.MissingNames.{missing_text}

@@ -2,14 +2,14 @@
 use Rattle.std.specs.Prelude.{ℕ, Option, Some, None, List, ◌++◌, codes}
 use Rattle.program_model.specs.declared.program.Program.{Program}
 use Rattle.program_texts.specs.Texts.{class_text}
-use Rattle.java_control.specs.declared.action.Action.{Action}
-use Rattle.java_control.specs.declared.action.Action.TheVariants as actions
-use Rattle.java_control.specs.declared.action.Edge.{Edge}
-use Rattle.java_control.specs.declared.action.Edge.TheVariants as edges
-use Rattle.java_control.specs.declared.fact.OriginKind.{OriginKind}
-use Rattle.java_control.specs.declared.fact.OriginKind.TheVariants as origins
-use Rattle.java_control.specs.declared.fact.Rule.{Rule}
-use Rattle.java_control.specs.declared.fact.Rule.TheVariants as rules_of
+use Rattle.control_actions.specs.declared.action.Action.{Action}
+use Rattle.control_actions.specs.declared.action.Action.TheVariants as actions
+use Rattle.control_actions.specs.declared.action.Edge.{Edge}
+use Rattle.control_actions.specs.declared.action.Edge.TheVariants as edges
+use Rattle.control_actions.specs.declared.fact.OriginKind.{OriginKind}
+use Rattle.control_actions.specs.declared.fact.OriginKind.TheVariants as origins
+use Rattle.control_actions.specs.declared.fact.Rule.{Rule}
+use Rattle.control_actions.specs.declared.fact.Rule.TheVariants as rules_of
 
 -- the name of a rule
 abbrev pub rule_word : Rule → List ℕ

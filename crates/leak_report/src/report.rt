@@ -4,8 +4,8 @@ ghost use Rattle.leak_report.specs.Reports.{head_line, origin_line, report_text}
 use crate::names::put_missing;
 use crate::steps::put_path;
 use crate::words::{origin_word, rule_word};
+use control_actions::{Origin, Rule};
 use flow_rules::PathStep;
-use java_control::{Origin, Rule};
 use program_model::Program;
 use program_texts::{put_class, put_line, put_place};
 use rlc_base::{NameSet, NoMemory, Pos, Text};

@@ -3,7 +3,7 @@
 ghost use Rattle.std.specs.Prelude.{◌≡◌, ◌++◌, option_map, OnOk};
 ghost use Rattle.leak_report.specs.Words.{action_word, edge_text, origin_word, rule_word};
 
-use java_control::{Action, Edge, OriginKind, Rule};
+use control_actions::{Action, Edge, OriginKind, Rule};
 use program_model::Program;
 use program_texts::put_class;
 use rlc_base::{NoMemory, Text};

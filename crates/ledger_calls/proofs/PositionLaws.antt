@@ -1,6 +1,6 @@
 -- Positions of calls.
 use Rattle.std.proofs.Common.{◌≡◌, refl, ℕ, zero, suc, ◌≢◌, Option}
-use Rattle.java_control.specs.declared.action.Action.{Action}
+use Rattle.control_actions.specs.declared.action.Action.{Action}
 use Rattle.ledger_state.specs.declared.locals.Locals.{Locals}
 use Rattle.ledger_calls.specs.Calls.{operand_of, position_of}
 

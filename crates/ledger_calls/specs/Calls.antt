@@ -15,9 +15,9 @@ use Rattle.program_model.specs.Lookups.{body_at, method_at}
 use Rattle.program_model.specs.Overrides.{method_run}
 use Rattle.program_model.specs.SuperTests.{is_ignored, is_under}
 use Rattle.rlc_base.specs.declared.name_id.NameId.{NameId}
-use Rattle.java_control.specs.declared.action.Action.{Action}
-use Rattle.java_control.specs.declared.action.TargetForm.{TargetForm}
-use Rattle.java_control.specs.declared.action.TargetForm.TheVariants as forms
+use Rattle.control_actions.specs.declared.action.Action.{Action}
+use Rattle.control_actions.specs.declared.action.TargetForm.{TargetForm}
+use Rattle.control_actions.specs.declared.action.TargetForm.TheVariants as forms
 use Rattle.java_control.specs.Calls.{operand_at, target_form}
 use Rattle.java_control.specs.Control.{start_of}
 use Rattle.java_control.specs.Exceptions.{throws_in, unchecked}

@@ -4,8 +4,8 @@ use Rattle.std.specs.List.{find}
 use Rattle.std.specs.Option.{option_map}
 use Rattle.java_control.specs.Changes.{step_in}
 use Rattle.java_control.specs.Control.{Step}
-use Rattle.java_control.specs.declared.cell.Cell.{Cell}
-use Rattle.java_control.specs.declared.triple.Triple.{Triple}
+use Rattle.control_actions.specs.declared.cell.Cell.{Cell}
+use Rattle.control_actions.specs.declared.triple.Triple.{Triple}
 
 -- the first triple whose step passes the test means the first step that does
 pub find_meant : (test : Step → Bool) (cells : List Cell) (steps : List Triple) → option_map (step_in cells) (find (λ s. test (step_in cells s)) steps) ≡ find test (map (step_in cells) steps)

@@ -3,8 +3,8 @@
 ghost use Rattle.std.specs.Prelude.{◌≡◌, List, map, option_map, MatchOption, None, Some};
 ghost use Rattle.std.specs.List.{find};
 ghost use Rattle.java_control.specs.Changes.{step_in};
-ghost use Rattle.java_control.specs.declared.cell.Cell.{Cell};
-ghost use Rattle.java_control.specs.declared.triple.Triple.{Triple};
+ghost use Rattle.control_actions.specs.declared.cell.Cell.{Cell};
+ghost use Rattle.control_actions.specs.declared.triple.Triple.{Triple};
 ghost use Rattle.ledger_frames.specs.Choosing.{agrees, agrees_with, goes_by, is_number, is_taken, method_body, same_edge};
 
 use crate::edges::{fits_edge, operation_edge, same_edge};

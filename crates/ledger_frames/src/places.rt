@@ -5,7 +5,7 @@ ghost use Rattle.std.specs.List.{range_with_len};
 ghost use Rattle.java_control.specs.Sources.{is_place};
 ghost use Rattle.ledger_frames.specs.Choosing.{method_body};
 ghost use Rattle.ledger_frames.specs.Frames.{depth_by, depth_in, depth_of, is_made, locals_after, made_place, numbers_below, source_by, sourced, value_after};
-ghost use Rattle.java_control.specs.declared.place.Place.TheVariants as places;
+ghost use Rattle.control_actions.specs.declared.place.Place.TheVariants as places;
 
 use crate::choosing::method_body;
 use java_control::{Action, Edge, Place, source};

@@ -4,7 +4,7 @@ use Rattle.program_model.specs.declared.kinds.ClassId.{ClassId}
 use Rattle.program_model.specs.declared.kinds.MethodId.{MethodId}
 use Rattle.program_model.specs.declared.program.Program.{Program}
 use Rattle.rlc_base.specs.declared.place.Pos.{Pos}
-use Rattle.java_control.specs.declared.action.Completion.{Completion}
+use Rattle.control_actions.specs.declared.action.Completion.{Completion}
 use Rattle.ledger_moves.specs.Configuration.{Config, Frame}
 use Rattle.ledger_moves.specs.Moves.{Move, End, Rest, Stray, Back, NoWay, StrayBack, return_move}
 use Rattle.ledger_runs.specs.Steps.{moved_by, returned, returned_by}

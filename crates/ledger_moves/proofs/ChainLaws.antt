@@ -6,9 +6,9 @@ use Rattle.std.specs.List.{find}
 use Rattle.std.specs.Option.{option_map}
 use Rattle.java_control.specs.Changes.{highest_steps, step_in}
 use Rattle.java_control.specs.Control.{Step}
-use Rattle.java_control.specs.declared.cell.Cell.{Cell}
-use Rattle.java_control.specs.declared.item.Item.TheVariants as items
-use Rattle.java_control.specs.declared.triple.Triple.{Triple}
+use Rattle.control_actions.specs.declared.cell.Cell.{Cell}
+use Rattle.control_actions.specs.declared.item.Item.TheVariants as items
+use Rattle.control_actions.specs.declared.triple.Triple.{Triple}
 use Rattle.java_control.specs.Remaining.{Todo, todos}
 use Rattle.java_control.specs.Tables.{list_at, list_from}
 

@@ -3,8 +3,8 @@ use Rattle.std.proofs.Common.{◌≡◌, refl, ◌-◌, Option, Some, None, List
 use Rattle.std.specs.Prelude.{slice_get}
 use Rattle.std.specs.Option.{option_map}
 use Rattle.java_control.specs.Changes.{step_in}
-use Rattle.java_control.specs.declared.cell.Cell.{Cell}
-use Rattle.java_control.specs.declared.triple.Triple.{Triple}
+use Rattle.control_actions.specs.declared.cell.Cell.{Cell}
+use Rattle.control_actions.specs.declared.triple.Triple.{Triple}
 use Rattle.ledger_frames.specs.LedgerCallsCalls.{begun, body_of, control_in, variable_count}
 use Rattle.ledger_moves.specs.Frames.{start_by}
 use Rattle.ledger_state.specs.declared.locals.Locals.{Locals}

@@ -3,7 +3,7 @@ pub use Rattle.ledger_frames.specs.Frames.{frame_after}
 use Rattle.std.specs.Prelude.{ℕ, max, Option, Some, None, List, [], ◌∷◌, map, reverse}
 use Rattle.program_model.specs.declared.kinds.BodyId.{BodyId}
 use Rattle.program_model.specs.declared.program.Program.{Program}
-use Rattle.java_control.specs.declared.cell.Cell.{Cell}
+use Rattle.control_actions.specs.declared.cell.Cell.{Cell}
 use Rattle.java_control.specs.Changes.{step_in}
 use Rattle.java_control.specs.Control.{start_of}
 use Rattle.java_control.specs.Remaining.{Todo, todos}

@@ -3,8 +3,8 @@
 ghost use Rattle.std.specs.Prelude.{◌≡◌, ◌≤◌, List, map, IfSome};
 ghost use Rattle.std.specs.Option.{option_map};
 ghost use Rattle.java_control.specs.Changes.{highest_steps, step_in};
-ghost use Rattle.java_control.specs.declared.action.Edge.TheVariants as edges;
-ghost use Rattle.java_control.specs.declared.cell.Cell.{Cell};
+ghost use Rattle.control_actions.specs.declared.action.Edge.TheVariants as edges;
+ghost use Rattle.control_actions.specs.declared.cell.Cell.{Cell};
 ghost use Rattle.ledger_frames.specs.LedgerCallsCalls.{body_of, form_of, operand_of};
 ghost use Rattle.ledger_moves.specs.Frames.{control_left, move_seen};
 ghost use Rattle.ledger_moves.specs.Moves.{by_class, by_edge, call, call_of, fits_target, has_body, inner_by, is_target_of, library_as, library_by, library_call, null_target, program_call};

@@ -1,9 +1,9 @@
 //! How the end of a frame goes on in its caller.
 
 ghost use Rattle.std.specs.Prelude.{◌≡◌, ◌≤◌, List, None, Some, length, map, slice_get, IfOk};
-ghost use Rattle.java_control.specs.declared.action.Edge.TheVariants as edges;
+ghost use Rattle.control_actions.specs.declared.action.Edge.TheVariants as edges;
 ghost use Rattle.java_control.specs.Changes.{highest_steps, step_in};
-ghost use Rattle.java_control.specs.declared.cell.Cell.{Cell};
+ghost use Rattle.control_actions.specs.declared.cell.Cell.{Cell};
 ghost use Rattle.java_control.specs.Tables.{Keeps};
 ghost use Rattle.ledger_frames.specs.Choosing.{frame_steps};
 ghost use Rattle.ledger_moves.specs.Frames.{control_back, frame_seen, return_seen};

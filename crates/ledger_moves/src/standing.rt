@@ -1,7 +1,7 @@
 //! The action that stands first in a frame.
 
 ghost use Rattle.std.specs.Prelude.{◌≡◌, ◌≤◌, List, length, slice_get};
-ghost use Rattle.java_control.specs.declared.cell.Cell.{Cell};
+ghost use Rattle.control_actions.specs.declared.cell.Cell.{Cell};
 ghost use Rattle.java_control.specs.Remaining.{todos};
 ghost use Rattle.java_control.specs.Tables.{list_at, view_in};
 ghost use Rattle.ledger_moves.specs.Moves.{standing};

@@ -3,7 +3,7 @@
 ghost use Rattle.std.specs.Prelude.{◌≡◌, ◌≤◌, List, length, map, slice_get, IfOk, IfSome};
 ghost use Rattle.std.specs.Option.{option_map};
 ghost use Rattle.java_control.specs.Changes.{highest_steps, step_in};
-ghost use Rattle.java_control.specs.declared.cell.Cell.{Cell};
+ghost use Rattle.control_actions.specs.declared.cell.Cell.{Cell};
 ghost use Rattle.java_control.specs.Remaining.{todos};
 ghost use Rattle.java_control.specs.Tables.{Keeps, list_at};
 ghost use Rattle.ledger_frames.specs.Choosing.{frame_steps};

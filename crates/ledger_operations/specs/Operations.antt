@@ -13,12 +13,12 @@ use Rattle.program_model.specs.declared.kinds.VType.{VType}
 use Rattle.program_model.specs.declared.kinds.VType.TheVariants as types
 use Rattle.program_model.specs.declared.program.Program.{Program}
 use Rattle.program_model.specs.Lookups.{optional}
-use Rattle.java_control.specs.declared.action.Action.{Action}
-use Rattle.java_control.specs.declared.action.Action.TheVariants as actions
-use Rattle.java_control.specs.declared.action.Operator.{Operator}
-use Rattle.java_control.specs.declared.action.Operator.TheVariants as operators
-use Rattle.java_control.specs.declared.action.PlainValue.{PlainValue}
-use Rattle.java_control.specs.declared.action.PlainValue.TheVariants as plain
+use Rattle.control_actions.specs.declared.action.Action.{Action}
+use Rattle.control_actions.specs.declared.action.Action.TheVariants as actions
+use Rattle.control_actions.specs.declared.action.Operator.{Operator}
+use Rattle.control_actions.specs.declared.action.Operator.TheVariants as operators
+use Rattle.control_actions.specs.declared.action.PlainValue.{PlainValue}
+use Rattle.control_actions.specs.declared.action.PlainValue.TheVariants as plain
 use Rattle.java_constants.specs.Arithmetic.{converted}
 use Rattle.java_constants.specs.Folding.{folded, folded_unary}
 use Rattle.stub_conduct.specs.Conducts.{cut}

@@ -3,7 +3,7 @@
 ghost use Rattle.std.specs.Prelude.{◌≡◌};
 ghost use Rattle.ledger_operations.specs.Operations.{is_cast_refused, is_index, operand, thrown_by_index, thrown_by_number, thrown_by_operation, thrown_by_operator, thrown_where};
 
-use java_control::{Action, Operator};
+use control_actions::{Action, Operator};
 use ledger_state::{ArrayObject, Heap, Locals, Value, array_length, is_instance};
 use program_model::{BinaryOperator, ClassId, Program, VType};
 

@@ -1,10 +1,10 @@
 //! What the places of a frame hold.
 
 ghost use Rattle.std.specs.Prelude.{◌≡◌, filter, slice_get};
-ghost use Rattle.java_control.specs.Owned.{is_owning};
+ghost use Rattle.control_actions.specs.Owned.{is_owning};
 ghost use Rattle.ledger_operations.specs.Places.{field_place_value, owning_field_beside, place_value};
 
-use java_control::Place;
+use control_actions::Place;
 use ledger_state::{Heap, Locals, Value, field_of};
 use program_model::{FieldId, MethodId, Program};
 

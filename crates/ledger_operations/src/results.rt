@@ -5,8 +5,8 @@ ghost use Rattle.ledger_operations.specs.Operations.{by_operand_type, by_referen
 ghost use Rattle.ledger_state.specs.Classes.{array_of};
 
 use crate::exceptions::operand;
+use control_actions::{Action, Operator, PlainValue};
 use java_constants::{converted, folded, folded_unary};
-use java_control::{Action, Operator, PlainValue};
 use ledger_state::{
     ArrayObject, Heap, Locals, StoredStatic, Value, array_length, array_of, default_of, field_of,
     index_of, is_instance, literal_value, static_value,

@@ -5,7 +5,7 @@ ghost use Rattle.ledger_operations.specs.Operations.{array_by_operator, array_by
 
 use crate::choices::one_more_used;
 use crate::exceptions::operand;
-use java_control::{Action, Operator};
+use control_actions::{Action, Operator};
 use ledger_state::{ArrayObject, Locals, StoredStatic, Value, index_of, is_shared, new_array};
 use program_model::VType;
 use rlc_base::NoMemory;

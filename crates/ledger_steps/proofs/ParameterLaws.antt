@@ -1,6 +1,6 @@
 -- Parameters by their positions.
 use Rattle.std.proofs.Common.{◌≡◌, ap, arith, refl, ℕ, zero, suc, ◌-◌, ◌≢◌, None, Option, Some}
-use Rattle.java_control.specs.declared.action.Action.{Action}
+use Rattle.control_actions.specs.declared.action.Action.{Action}
 use Rattle.ledger_calls.specs.Calls.{alias_position, alias_target, object_by, operand_of, position_of, reset_position, reset_target}
 use Rattle.ledger_state.specs.declared.locals.Locals.{Locals}
 use Rattle.ledger_state.specs.Locals.{variable_value}

@@ -8,10 +8,10 @@ use Rattle.program_model.specs.declared.program.Method.{Method}
 use Rattle.rlc_base.specs.declared.place.Pos.{Pos}
 use Rattle.must_call_sets.specs.Bodies.{constructs}
 use Rattle.must_call_sets.specs.MustCallSets.{must_of}
-use Rattle.java_control.specs.declared.action.Action.{Action}
-use Rattle.java_control.specs.declared.action.Action.TheVariants as actions
-use Rattle.java_control.specs.declared.action.Completion.{Completion}
-use Rattle.java_control.specs.declared.action.Completion.TheVariants as completions
+use Rattle.control_actions.specs.declared.action.Action.{Action}
+use Rattle.control_actions.specs.declared.action.Action.TheVariants as actions
+use Rattle.control_actions.specs.declared.action.Completion.{Completion}
+use Rattle.control_actions.specs.declared.action.Completion.TheVariants as completions
 use Rattle.ledger_state.specs.declared.entry.Entry.{Entry}
 use Rattle.ledger_state.specs.declared.entry.LeakWord.TheVariants as words
 use Rattle.ledger_state.specs.declared.entry.Owner.TheVariants as owners

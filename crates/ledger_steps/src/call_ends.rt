@@ -15,7 +15,7 @@ ghost use Rattle.program_model.specs.Lookups.{method_at};
 use crate::effect::{StepEffect, left};
 use crate::notes_and_resets::note_and_reset;
 use crate::stores::constructs;
-use java_control::Action;
+use control_actions::Action;
 use ledger_calls::{
     add_receiver_note, alias_target, has_owning_result, is_alias, reset_target, result_of,
 };

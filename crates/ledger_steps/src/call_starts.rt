@@ -8,7 +8,7 @@ ghost use Rattle.ledger_steps.specs.CallSteps.{object_begun, object_of_new, self
 ghost use Rattle.program_model.specs.Lookups.{method_at};
 
 use crate::effect::{StepEffect, left};
-use java_control::Action;
+use control_actions::Action;
 use ledger_calls::{move_arguments, operand_of};
 use ledger_entries::owner_entries;
 use ledger_obligations::ActiveFrame;

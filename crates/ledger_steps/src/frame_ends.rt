@@ -6,7 +6,7 @@ ghost use Rattle.ledger_steps.specs.Ends.{answered, answered_normally, default_r
 ghost use Rattle.program_model.specs.Lookups.{method_at};
 
 use crate::effect::StepEffect;
-use java_control::{Action, Completion};
+use control_actions::{Action, Completion};
 use ledger_calls::result_of;
 use ledger_entries::leak_entries;
 use ledger_obligations::end_frame;

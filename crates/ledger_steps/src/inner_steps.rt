@@ -9,7 +9,7 @@ use crate::effect::{StepEffect, left};
 use crate::store::store_unless;
 use crate::stores::heap_stored;
 use crate::thrown::thrown_heap;
-use java_control::Action;
+use control_actions::Action;
 use ledger_obligations::ActiveFrame;
 use ledger_state::{Heap, Locals};
 use program_model::{ClassId, MethodId, Program};

@@ -12,7 +12,7 @@ ghost use Rattle.program_model.specs.Lookups.{method_at};
 use crate::call_starts::arguments_moved;
 use crate::effect::{StepEffect, left};
 use crate::notes_and_resets::note_and_reset;
-use java_control::Action;
+use control_actions::Action;
 use ledger_calls::{add_library_notes, library_birth, made_by_new, reset_target};
 use ledger_entries::{birth_entries, owner_entries};
 use ledger_obligations::{ActiveFrame, Note};

@@ -3,7 +3,7 @@
 ghost use Rattle.std.specs.Prelude.{◌≡◌};
 ghost use Rattle.ledger_steps.specs.InnerSteps.{store_into, store_of, store_unless};
 
-use java_control::Action;
+use control_actions::Action;
 use ledger_state::{Locals, Value};
 use program_model::{ClassId, FieldId};
 

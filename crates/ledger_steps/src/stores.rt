@@ -1,7 +1,7 @@
 //! What a store into a field does to the heap.
 
 ghost use Rattle.std.specs.Prelude.{◌≡◌, ◌++◌, IfOk, OnOk, if◌then◌else◌};
-ghost use Rattle.java_control.specs.Owned.{is_owning};
+ghost use Rattle.control_actions.specs.Owned.{is_owning};
 ghost use Rattle.ledger_calls.specs.Calls.{alias_position, alias_target};
 ghost use Rattle.ledger_entries.specs.Entries.{leak_entries, owner_entries, reset_entries};
 ghost use Rattle.ledger_obligations.specs.Obligations.{displaced, holder_roots, moved_in, reset_roots, stored_owning};

@@ -1,16 +1,16 @@
 -- Frames over a table of lists.
 use Rattle.std.proofs.Common.{◌≡◌, ◌∙◌, ap, refl, arith, Result, Ok, Err, OnErr, ℕ, ◌+◌, ◌-◌, ◌<◌, ◌≤◌, max, List, [], ◌∷◌, ◌++◌, map, length, length-append, nat_eq, reverse, set}
 use Rattle.std.proofs.lemmas.List.{length-map, length-reverse, reverse-append, set-append_right}
-use Rattle.java_control.specs.declared.cell.Cell.{Cell}
-use Rattle.java_control.specs.Remaining.{todos}
-use Rattle.java_control.specs.Tables.{Keeps}
+use Rattle.control_actions.specs.declared.cell.Cell.{Cell}
+use Rattle.control_actions.specs.Remaining.{todos}
+use Rattle.control_actions.specs.Tables.{Keeps}
 use Rattle.ledger_runs.specs.Configuration.{Config, Frame, held_by}
 use Rattle.program_model.specs.declared.kinds.MethodId.{MethodId}
 use Rattle.program_model.specs.declared.program.Program.{Program}
 use Rattle.ledger_runs.specs.Moves.{Move}
 use Rattle.ledger_runs.specs.Steps.{has_ended, moved, moved_by}
 use Rattle.ledger_state.specs.declared.locals.Locals.{Locals}
-use Rattle.java_control.specs.declared.lists.Lists.{Lists}
+use Rattle.control_actions.specs.declared.lists.Lists.{Lists}
 use Rattle.machine_state.specs.declared.run_state.RunState.{RunState}
 use Rattle.machine_state.specs.RunStates.{config_of}
 use Rattle.ledger_runs.specs.Frames.{frame_seen, frames_seen, highest_control}

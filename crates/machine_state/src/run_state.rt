@@ -1,6 +1,6 @@
 //! One run of a program at one moment, over a table of lists.
 
-use java_control::Lists;
+use control_actions::Lists;
 use ledger_obligations::ActiveFrame;
 use ledger_state::{ArrayObject, Entry, Heap, StoredStatic};
 use object_index::ObjectIndex;

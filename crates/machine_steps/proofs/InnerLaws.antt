@@ -3,8 +3,8 @@ use Rattle.std.proofs.Common.{◌≡◌, ◌∙◌, sym, ap, ℕ, Option, List, 
 use Rattle.program_model.specs.declared.kinds.ClassId.{ClassId}
 use Rattle.program_model.specs.declared.program.Program.{Program}
 use Rattle.java_control.specs.Changes.{step_in}
-use Rattle.java_control.specs.declared.cell.Cell.{Cell}
-use Rattle.java_control.specs.declared.triple.Triple.{Triple}
+use Rattle.control_actions.specs.declared.cell.Cell.{Cell}
+use Rattle.control_actions.specs.declared.triple.Triple.{Triple}
 use Rattle.ledger_frames.specs.Configuration.{Config}
 use Rattle.ledger_frames.specs.Frames.{locals_after}
 use Rattle.machine_state.proofs.FrameLaws.{frame_with, moved_top, held_seen, last_seen}

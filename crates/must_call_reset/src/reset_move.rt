@@ -1,6 +1,6 @@
 //! What a call that creates an obligation anew does to what is known of its target.
 
-use java_control::Rule;
+use control_actions::Rule;
 
 /// What a call's reset makes of a fact.
 #[derive(Clone, Copy, PartialEq, Eq)]

@@ -7,7 +7,7 @@ ghost use Rattle.must_call_reset.specs.Resets.{is_bad_target, is_hidden_this, is
 ghost use Rattle.must_call_sets.specs.Bodies.{reset_in};
 
 use crate::reset_move::ResetMove;
-use java_control::{Action, Fact, Mode, Origin, Rule};
+use control_actions::{Action, Fact, Mode, Origin, Rule};
 use must_call_sets::{
     alias_position, is_alias_constructor, is_constructor, is_extended_constructor, is_heavy_class,
     resets_this,

@@ -1,13 +1,13 @@
 -- The steps that sets of places have room for: those of bodies that pass no limit on places.
 use Rattle.std.specs.Prelude.{ℕ, ◌+◌, ◌<◌, ◌≤◌, Option, Some, None}
 use Rattle.program_model.specs.declared.program.Program.{Program}
-use Rattle.java_control.specs.PlaceNumbers.{IsSmall}
-use Rattle.java_control.specs.Owned.{place_of_field}
-use Rattle.java_control.specs.declared.action.Action.{Action}
-use Rattle.java_control.specs.declared.action.Action.TheVariants as actions
-use Rattle.java_control.specs.declared.action.Scope.{Scope}
-use Rattle.java_control.specs.declared.action.Scope.TheVariants as scopes
-use Rattle.java_control.specs.Calls.{completion_temp}
+use Rattle.control_actions.specs.PlaceNumbers.{IsSmall}
+use Rattle.control_actions.specs.Owned.{place_of_field}
+use Rattle.control_actions.specs.declared.action.Action.{Action}
+use Rattle.control_actions.specs.declared.action.Action.TheVariants as actions
+use Rattle.control_actions.specs.declared.action.Scope.{Scope}
+use Rattle.control_actions.specs.declared.action.Scope.TheVariants as scopes
+use Rattle.action_effects.specs.Calls.{completion_temp}
 
 -- the temp, where there is one, is in range
 abbrev pub IsSmallTemp : Option ℕ → Type 0

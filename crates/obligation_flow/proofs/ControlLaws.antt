@@ -2,7 +2,7 @@
 use Rattle.std.proofs.Common.{List}
 use Rattle.program_model.specs.declared.kinds.BodyId.{BodyId}
 use Rattle.program_model.specs.declared.program.Program.{Program}
-use Rattle.java_control.specs.Remaining.{Todo}
+use Rattle.control_actions.specs.Remaining.{Todo}
 use Rattle.java_cfg.specs.Graphs.{IsGraphOf}
 use Rattle.java_cfg.specs.declared.arc.Arc.{Arc}
 use Rattle.flow_rules.specs.Paths.{relation_of}

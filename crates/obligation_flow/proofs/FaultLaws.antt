@@ -11,9 +11,9 @@ use Rattle.must_call_types.proofs.Orders.{nondecreasing_map}
 use Rattle.breadth_first.specs.Searches.{AreOnce, IsAt, Stands}
 use Rattle.breadth_first.proofs.ListLaws.{at_map, at_same, map_at, stands_map}
 use Rattle.java_cfg.specs.declared.arc.Arc.{Arc}
-use Rattle.java_control.specs.declared.fact.Fact.{Fact}
-use Rattle.java_control.specs.declared.fact.Origin.{Origin}
-use Rattle.java_control.specs.declared.fact.Rule.{Rule}
+use Rattle.control_actions.specs.declared.fact.Fact.{Fact}
+use Rattle.control_actions.specs.declared.fact.Origin.{Origin}
+use Rattle.control_actions.specs.declared.fact.Rule.{Rule}
 use Rattle.flow_rules.specs.Facts.{Names}
 use Rattle.flow_rules.specs.Paths.{Faulty}
 use Rattle.reached_pairs.specs.declared.visit.Visit.{Visit}

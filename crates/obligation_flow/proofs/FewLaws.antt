@@ -8,8 +8,8 @@ use Rattle.breadth_first.proofs.ListLaws.{at_same}
 use Rattle.fact_pool.specs.declared.handle.Handle.{Handle}
 use Rattle.java_cfg.specs.declared.arc.Arc.{Arc}
 use Rattle.java_cfg.proofs.ListLemmas.{once_length}
-use Rattle.java_control.specs.declared.fact.Fact.{Fact}
-use Rattle.java_control.specs.declared.fact.Origin.{Origin}
+use Rattle.control_actions.specs.declared.fact.Fact.{Fact}
+use Rattle.control_actions.specs.declared.fact.Origin.{Origin}
 use Rattle.flow_rules.specs.Numbering.{numbered}
 use Rattle.obligation_paths.specs.Nodes.{relation_in}
 use Rattle.obligation_paths.specs.Origins.{origins_of}

@@ -3,7 +3,7 @@ use Rattle.std.proofs.Common.{◌≡◌, ◌∙◌, sym, ap, refl, subst, add-on
 use Rattle.std.specs.Prelude.{map}
 use Rattle.breadth_first.specs.Searches.{IsAt}
 use Rattle.breadth_first.proofs.ListLaws.{at_push, map_append}
-use Rattle.java_control.specs.declared.fact.Origin.{Origin}
+use Rattle.control_actions.specs.declared.fact.Origin.{Origin}
 use Rattle.body_faults.specs.declared.breach.Breach.{Breach}
 use Rattle.body_faults.specs.declared.breach.Breached.{Breached}
 use Rattle.obligation_flow.specs.Faults.{AreNamed, breach_of}

@@ -4,9 +4,9 @@ use Rattle.program_model.specs.declared.kinds.BodyId.{BodyId}
 use Rattle.program_model.specs.declared.program.Program.{Program}
 use Rattle.breadth_first.specs.Searches.{IsAt}
 use Rattle.breadth_first.proofs.ListLaws.{at_map, at_same, length_mapped}
-use Rattle.java_control.specs.Remaining.{Todo}
-use Rattle.java_control.specs.declared.fact.Fact.{Fact}
-use Rattle.java_control.specs.declared.fact.Origin.{Origin}
+use Rattle.control_actions.specs.Remaining.{Todo}
+use Rattle.control_actions.specs.declared.fact.Fact.{Fact}
+use Rattle.control_actions.specs.declared.fact.Origin.{Origin}
 use Rattle.java_cfg.specs.Graphs.{IsGraphOf}
 use Rattle.java_cfg.specs.declared.arc.Arc.{Arc}
 use Rattle.flow_rules.specs.declared.path_step.PathStep.{PathStep}

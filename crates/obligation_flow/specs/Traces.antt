@@ -6,9 +6,9 @@ use Rattle.breadth_first.specs.Searches.{IsAt}
 use Rattle.fact_pool.specs.declared.handle.Handle.{Handle}
 use Rattle.reached_facts.specs.Searched.{IsSearched}
 use Rattle.java_cfg.specs.declared.arc.Arc.{Arc}
-use Rattle.java_control.specs.Remaining.{Todo}
-use Rattle.java_control.specs.declared.fact.Fact.{Fact}
-use Rattle.java_control.specs.declared.fact.Origin.{Origin}
+use Rattle.control_actions.specs.Remaining.{Todo}
+use Rattle.control_actions.specs.declared.fact.Fact.{Fact}
+use Rattle.control_actions.specs.declared.fact.Origin.{Origin}
 use Rattle.reached_pairs.specs.declared.visit.Visit.{Visit}
 use Rattle.obligation_paths.specs.Nodes.{relation_in}
 use Rattle.reached_facts.specs.Steps.{Begins, IsReady, Leads}

@@ -14,10 +14,10 @@ ghost use Rattle.obligation_flow.specs.Faults.{AreNamed, breach_of, fault_of, or
 ghost use Rattle.obligation_flow.specs.Traces.{AreTracedFaults};
 
 use body_faults::{Breach, Breached, body_breaches};
+use control_actions::{Fact, Origin};
 use fact_pool::{Pool, Region};
 use fault_order::{FaultAt, compare_faults};
 use indexmap::IndexSet;
-use java_control::{Fact, Origin};
 use reached_facts::BodyFlow;
 use reached_pairs::Visits;
 use rlc_base::NoMemory;

@@ -20,12 +20,12 @@ ghost use Rattle.obligation_flow.specs.Traces.{IsTraceOf, faults_of, origins_in,
 
 use crate::faults::{TracedFault, body_faults};
 use body_walk::{Walk, walk_body};
+use control_actions::{Fact, Origin};
 use fact_pool::{Handle, Pool, Region};
 use fault_order::FaultAt;
 use flow_rules::PathStep;
 use indexmap::IndexSet;
 use java_cfg::{Graph, method_place};
-use java_control::{Fact, Origin};
 use obligation_paths::breaking_path;
 use program_model::{BodyId, Program};
 use reached_facts::BodyFlow;

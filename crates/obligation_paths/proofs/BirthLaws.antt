@@ -22,20 +22,20 @@ use Rattle.breadth_first.specs.Searches.{IsAt}
 use Rattle.breadth_first.proofs.ListLaws.{at_split}
 use Rattle.java_control.specs.Calls.{is_reset_of_this}
 use Rattle.java_control.specs.Owned.{place_of_field}
-use Rattle.java_control.specs.declared.action.Action.{Action}
-use Rattle.java_control.specs.declared.action.Action.TheVariants as actions
-use Rattle.java_control.specs.declared.action.Edge.{Edge}
-use Rattle.java_control.specs.declared.action.Edge.TheVariants as edges
-use Rattle.java_control.specs.declared.action.PlainValue.{PlainValue}
-use Rattle.java_control.specs.declared.action.PlainValue.TheVariants as plain
-use Rattle.java_control.specs.declared.fact.Fact.{Fact}
-use Rattle.java_control.specs.declared.fact.Mode.TheVariants as modes
-use Rattle.java_control.specs.declared.fact.Origin.{Origin}
-use Rattle.java_control.specs.declared.fact.OriginKind.{OriginKind}
-use Rattle.java_control.specs.declared.fact.OriginKind.TheVariants as kinds
-use Rattle.java_control.specs.declared.fact.Outcome.TheVariants.{Next}
-use Rattle.java_control.specs.declared.place.Place.{Place}
-use Rattle.java_control.specs.declared.place.Place.TheVariants as places
+use Rattle.control_actions.specs.declared.action.Action.{Action}
+use Rattle.control_actions.specs.declared.action.Action.TheVariants as actions
+use Rattle.control_actions.specs.declared.action.Edge.{Edge}
+use Rattle.control_actions.specs.declared.action.Edge.TheVariants as edges
+use Rattle.control_actions.specs.declared.action.PlainValue.{PlainValue}
+use Rattle.control_actions.specs.declared.action.PlainValue.TheVariants as plain
+use Rattle.control_actions.specs.declared.fact.Fact.{Fact}
+use Rattle.control_actions.specs.declared.fact.Mode.TheVariants as modes
+use Rattle.control_actions.specs.declared.fact.Origin.{Origin}
+use Rattle.control_actions.specs.declared.fact.OriginKind.{OriginKind}
+use Rattle.control_actions.specs.declared.fact.OriginKind.TheVariants as kinds
+use Rattle.control_actions.specs.declared.fact.Outcome.TheVariants.{Next}
+use Rattle.control_actions.specs.declared.place.Place.{Place}
+use Rattle.control_actions.specs.declared.place.Place.TheVariants as places
 use Rattle.flow_rules.specs.MustCallSets.{Names, is_heavy_class, no_names}
 use Rattle.flow_rules.specs.Signatures.{field_type, is_present}
 use Rattle.flow_rules.specs.Bodies.{fields_of, has_field_place}

@@ -6,10 +6,10 @@ use Rattle.breadth_first.specs.Searches.{IsAt}
 use Rattle.breadth_first.specs.Walks.{IsWalk}
 use Rattle.breadth_first.proofs.ListLaws.{at_map, at_same}
 use Rattle.java_cfg.specs.declared.arc.Arc.{Arc}
-use Rattle.java_control.specs.declared.fact.Fact.{Fact}
-use Rattle.java_control.specs.declared.fact.Origin.{Origin}
-use Rattle.java_control.specs.declared.fact.Outcome.{Outcome}
-use Rattle.java_control.specs.declared.fact.Outcome.TheVariants.{Next, Gone, Fault}
+use Rattle.control_actions.specs.declared.fact.Fact.{Fact}
+use Rattle.control_actions.specs.declared.fact.Origin.{Origin}
+use Rattle.control_actions.specs.declared.fact.Outcome.{Outcome}
+use Rattle.control_actions.specs.declared.fact.Outcome.TheVariants.{Next, Gone, Fault}
 use Rattle.flow_rules.specs.Flow.{flow}
 use Rattle.flow_rules.specs.Numbering.{numbered, numbered_outcome}
 use Rattle.flow_rules.specs.Paths.{IsPath, Taken, taken, start, on, entered, born, flowed}

@@ -7,7 +7,7 @@ ghost use Rattle.fact_pool.specs.declared.handle.Handle.{Handle as DeclaredHandl
 ghost use Rattle.reached_facts.specs.Searched.{IsSearched};
 ghost use Rattle.java_cfg.specs.Contents.{arcs_of, nodes_of};
 ghost use Rattle.java_cfg.specs.declared.arc.Arc.{Arc as DeclaredArc};
-ghost use Rattle.java_control.specs.declared.fact.Origin.{Origin as DeclaredOrigin};
+ghost use Rattle.control_actions.specs.declared.fact.Origin.{Origin as DeclaredOrigin};
 ghost use Rattle.reached_pairs.specs.Visited.{fact_in};
 ghost use Rattle.graph_relation.specs.Nodes.{arcs_at, relation_in};
 ghost use Rattle.reached_facts.specs.Steps.{Begins, IsReady, Leads};

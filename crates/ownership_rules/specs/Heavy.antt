@@ -1,8 +1,8 @@
 -- Who owns an object that has an obligation.
 use Rattle.std.specs.Prelude.{Bool, ◌&&◌}
 use Rattle.program_model.specs.declared.program.Program.{Program}
-use Rattle.java_control.specs.declared.fact.Fact.{Fact}
-use Rattle.java_control.specs.declared.fact.Origin.{Origin}
+use Rattle.control_actions.specs.declared.fact.Fact.{Fact}
+use Rattle.control_actions.specs.declared.fact.Origin.{Origin}
 use Rattle.obligation_facts.specs.Facts.{is_own}
 use Rattle.must_call_sets.specs.MustCallSets.{is_heavy_class}
 

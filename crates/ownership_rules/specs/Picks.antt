@@ -1,7 +1,7 @@
 -- The k-th of births that stand in several lists, one behind another.
 use Rattle.std.specs.Prelude.{ℕ, zero, suc, Option, Some, None, List, [], ◌∷◌}
-use Rattle.java_control.specs.declared.fact.Fact.{Fact}
-use Rattle.java_control.specs.declared.fact.Origin.{Origin}
+use Rattle.control_actions.specs.declared.fact.Fact.{Fact}
+use Rattle.control_actions.specs.declared.fact.Origin.{Origin}
 use Rattle.ownership_rules.specs.declared.picks.Pick.{Pick}
 use Rattle.ownership_rules.specs.declared.picks.Pick.TheVariants.{Found, Past}
 

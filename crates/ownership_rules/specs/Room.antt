@@ -5,8 +5,8 @@ use Rattle.program_model.specs.declared.kinds.FieldId.{FieldId}
 use Rattle.program_model.specs.declared.program.Program.{Program}
 use Rattle.program_model.specs.declared.tree.Body.{Body}
 use Rattle.program_model.specs.Lookups.{body_at}
-use Rattle.java_control.specs.PlaceNumbers.{IsSmall}
-use Rattle.java_control.specs.Owned.{place_of_field}
+use Rattle.control_actions.specs.PlaceNumbers.{IsSmall}
+use Rattle.control_actions.specs.Owned.{place_of_field}
 use Rattle.must_call_sets.specs.Bodies.{has_field_place}
 
 abbrev pub variables_in : Option Body → ℕ

@@ -9,7 +9,7 @@ ghost use Rattle.ownership_rules.specs.Room.{HasRoom};
 use crate::field_births::pick_field;
 use crate::origins::{born, fact_at};
 use crate::picks::{Pick, found, pick_one};
-use java_control::{Fact, Mode, Origin, OriginKind, Place};
+use control_actions::{Fact, Mode, Origin, OriginKind, Place};
 use must_call_sets::is_position;
 use program_model::{Body, BodyId, Method, MethodKind, ParamSig, Program, Sig, VType};
 use rlc_base::NameSet;

@@ -1,7 +1,7 @@
 //! The births of a step.
 
 ghost use Rattle.std.specs.Prelude.{◌≡◌, ◌<◌, slice_get};
-ghost use Rattle.java_control.specs.PlaceNumbers.{IsSmall};
+ghost use Rattle.control_actions.specs.PlaceNumbers.{IsSmall};
 ghost use Rattle.obligation_facts.specs.SmallActions.{IsSmallAction};
 ghost use Rattle.program_model.specs.Lookups.{method_at};
 ghost use Rattle.ownership_rules.specs.Births.{birth_on, birth_on_go, births_of_step, constant_birth, new_birth, read_birth, reset_births, result_birth, result_fact};
@@ -12,9 +12,8 @@ ghost use Rattle.ownership_rules.specs.Room.{HasRoom};
 use crate::field_births::pick_field;
 use crate::origins::{born, fact_at};
 use crate::picks::{Pick, found, pick_one};
-use java_control::{
-    Action, Edge, Fact, Mode, Origin, OriginKind, Place, PlainValue, is_reset_of_this,
-};
+use action_effects::is_reset_of_this;
+use control_actions::{Action, Edge, Fact, Mode, Origin, OriginKind, Place, PlainValue};
 use must_call_sets::{field_type, is_heavy_class};
 use program_model::{BodyId, MethodId, Program, VType};
 use rlc_base::{NameSet, Pos};

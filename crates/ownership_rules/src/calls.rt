@@ -7,7 +7,7 @@ ghost use Rattle.ownership_rules.specs.Heavy.{is_owned};
 ghost use Rattle.ownership_rules.specs.MovesAtCalls.{are_two, first_of, has_two_owners, is_heavy_owner, is_heavy_target, moved_at_call, moved_to, moves_at, owners, owners_from, owners_in, takes, target, target_at, target_in};
 
 use crate::moved::Moved;
-use java_control::{Action, Edge, Fact, Origin, Places, Rule};
+use control_actions::{Action, Edge, Fact, Origin, Places, Rule};
 use must_call_sets::{fits_type, is_heavy_as, is_heavy_class, type_at};
 use obligation_facts::{callee, holds_argument, holds_operand, is_met, is_own, may_be_null_target};
 use program_model::{ClassId, Method, ParamSig, Program, VType};

@@ -2,15 +2,15 @@
 
 ghost use Rattle.std.specs.Prelude.{◌≡◌, true};
 ghost use Rattle.std.specs.List.{filter_map};
-ghost use Rattle.java_control.specs.Owned.{place_of_field};
-ghost use Rattle.java_control.specs.PlaceNumbers.{IsSmall};
+ghost use Rattle.control_actions.specs.Owned.{place_of_field};
+ghost use Rattle.control_actions.specs.PlaceNumbers.{IsSmall};
 ghost use Rattle.ownership_rules.specs.Births.{field_birth, field_birth_place, field_births};
 ghost use Rattle.ownership_rules.specs.Picks.{pick};
 ghost use Rattle.ownership_rules.specs.Room.{HasRoom};
 
 use crate::origins::{born, fact_at};
 use crate::picks::{Pick, pick_one};
-use java_control::{Fact, Mode, Origin, OriginKind, field_place};
+use control_actions::{Fact, Mode, Origin, OriginKind, field_place};
 use must_call_sets::{fields_of, has_field_place};
 use program_model::{BodyId, Field, FieldId, Program};
 use rlc_base::{NameSet, Pos};

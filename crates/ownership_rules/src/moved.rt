@@ -1,6 +1,6 @@
 //! Whether an obligation moves.
 
-use java_control::Rule;
+use control_actions::Rule;
 
 /// What a call or a `return` makes of an obligation.
 #[derive(Clone, Copy, PartialEq, Eq)]

@@ -1,10 +1,10 @@
 //! A birth: an origin with its first fact.
 
 ghost use Rattle.std.specs.Prelude.{◌≡◌};
-ghost use Rattle.java_control.specs.PlaceNumbers.{IsSmall};
+ghost use Rattle.control_actions.specs.PlaceNumbers.{IsSmall};
 ghost use Rattle.ownership_rules.specs.Births.{born, class_in, class_of, fact_at, origin_of};
 
-use java_control::{Fact, Mode, Origin, OriginKind, Place, Places};
+use control_actions::{Fact, Mode, Origin, OriginKind, Place, Places};
 use must_call_sets::must;
 use program_model::{ClassId, Program, VType};
 use rlc_base::{NameSet, Pos};

@@ -4,7 +4,7 @@ ghost use Rattle.std.specs.Prelude.{◌≡◌};
 ghost use Rattle.ownership_rules.specs.Picks.{found, pick};
 ghost use Rattle.program_model.specs.Lookups.{optional};
 
-use java_control::{Fact, Origin};
+use control_actions::{Fact, Origin};
 
 /// What a search for the k-th birth gave.
 #[derive(Clone, Copy)]

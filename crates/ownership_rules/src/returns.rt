@@ -7,7 +7,7 @@ ghost use Rattle.ownership_rules.specs.MovesAtReturns.{heavy_result, kept_alias,
 
 use crate::calls::is_owned;
 use crate::moved::Moved;
-use java_control::{Action, Completion, Fact, Origin, Place, Rule};
+use control_actions::{Action, Completion, Fact, Origin, Place, Rule};
 use must_call_sets::{alias_position, fits_type, is_heavy_as, method_of};
 use obligation_facts::is_alias;
 use program_model::{BodyId, Program, VType};

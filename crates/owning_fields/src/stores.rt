@@ -1,12 +1,12 @@
 //! The store into an owning field of `this`.
 
 ghost use Rattle.std.specs.Prelude.{◌≡◌, ◌<◌};
-ghost use Rattle.java_control.specs.Owned.{place_of_field};
-ghost use Rattle.java_control.specs.PlaceNumbers.{IsSmall};
+ghost use Rattle.control_actions.specs.Owned.{place_of_field};
+ghost use Rattle.control_actions.specs.PlaceNumbers.{IsSmall};
 ghost use Rattle.obligation_facts.specs.SmallActions.{IsSmallAction};
 ghost use Rattle.owning_fields.specs.Stores.{field_outcome, has_heavy_type, heavy_stored, is_heavy_store, keeps_other, lacks_reset, may_store, object_stored, overwritten, stored, stored_over, with_field};
 
-use java_control::{Action, Fact, Mode, Origin, Outcome, Place, Rule, field_place};
+use control_actions::{Action, Fact, Mode, Origin, Outcome, Place, Rule, field_place};
 use must_call_sets::{
     alias_position, beyond_type, field_type, fits_type, is_alias_constructor, is_constructor,
     is_heavy_as, is_heavy_class, must, must_of_optional, resets_this,

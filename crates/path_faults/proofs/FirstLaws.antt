@@ -10,10 +10,10 @@ use Rattle.fact_pool.specs.declared.handle.Handle.{Handle}
 use Rattle.shortest_paths.specs.Searched.{IsSearched}
 use Rattle.shortest_paths.proofs.SearchedLaws.{searched_all}
 use Rattle.java_cfg.specs.declared.arc.Arc.{Arc}
-use Rattle.java_control.specs.declared.fact.Fact.{Fact}
-use Rattle.java_control.specs.declared.fact.Origin.{Origin}
-use Rattle.java_control.specs.declared.fact.Outcome.TheVariants.{Fault}
-use Rattle.java_control.specs.declared.fact.Rule.{Rule}
+use Rattle.control_actions.specs.declared.fact.Fact.{Fact}
+use Rattle.control_actions.specs.declared.fact.Origin.{Origin}
+use Rattle.control_actions.specs.declared.fact.Outcome.TheVariants.{Fault}
+use Rattle.control_actions.specs.declared.fact.Rule.{Rule}
 use Rattle.java_cfg.specs.Facts.{Names}
 use Rattle.shortest_paths.specs.Flow.{flow}
 use Rattle.shortest_paths.specs.Numbering.{numbered, numbered_outcome}

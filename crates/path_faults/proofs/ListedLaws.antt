@@ -8,8 +8,8 @@ use Rattle.program_model.specs.declared.program.Program.{Program}
 use Rattle.breadth_first.specs.Searches.{IsAt, Stands}
 use Rattle.breadth_first.proofs.ListLaws.{at_behind, at_last, map_at, stands_append, stands_map}
 use Rattle.java_cfg.specs.declared.arc.Arc.{Arc}
-use Rattle.java_control.specs.declared.fact.Fact.{Fact}
-use Rattle.java_control.specs.declared.fact.Origin.{Origin}
+use Rattle.control_actions.specs.declared.fact.Fact.{Fact}
+use Rattle.control_actions.specs.declared.fact.Origin.{Origin}
 use Rattle.shortest_paths.specs.Births.{Birth, births_at_entry, births_of_step}
 use Rattle.shortest_paths.specs.Paths.{Move, Reach, entered, born, flowed}
 use Rattle.shortest_paths.specs.Nodes.{arcs_at, move_of, relation_in, row_in}

@@ -5,10 +5,10 @@ use Rattle.program_model.specs.declared.kinds.BodyId.{BodyId}
 use Rattle.program_model.specs.declared.program.Program.{Program}
 use Rattle.breadth_first.specs.Searches.{IsAt}
 use Rattle.java_cfg.specs.declared.arc.Arc.{Arc}
-use Rattle.java_control.specs.declared.fact.Fact.{Fact}
-use Rattle.java_control.specs.declared.fact.Origin.{Origin}
-use Rattle.java_control.specs.declared.fact.Outcome.TheVariants.{Fault}
-use Rattle.java_control.specs.declared.fact.Rule.{Rule}
+use Rattle.control_actions.specs.declared.fact.Fact.{Fact}
+use Rattle.control_actions.specs.declared.fact.Origin.{Origin}
+use Rattle.control_actions.specs.declared.fact.Outcome.TheVariants.{Fault}
+use Rattle.control_actions.specs.declared.fact.Rule.{Rule}
 use Rattle.java_cfg.specs.Facts.{Names}
 use Rattle.shortest_paths.specs.Flow.{flow}
 use Rattle.reached_pairs.specs.Visited.{fact_in}

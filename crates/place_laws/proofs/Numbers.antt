@@ -7,8 +7,8 @@ use Rattle.std.specs.Cmp.{nat_cmp_total}
 use Rattle.std.proofs.lemmas.Bool.{cases_lt}
 use Rattle.std.proofs.lemmas.Bool.Decides.{nat_tests}
 use Rattle.rlc_base.specs.NameSet.{inserted}
-use Rattle.java_control.specs.declared.place.Place.{Place}
-use Rattle.java_control.specs.declared.place.Place.TheVariants as places
+use Rattle.control_actions.specs.declared.place.Place.{Place}
+use Rattle.control_actions.specs.declared.place.Place.TheVariants as places
 use Rattle.java_control.specs.PlaceNumbers.{IsSmall, number_of}
 use Rattle.java_control.specs.Sources.{is_place}
 use Rattle.step_laws.specs.Facts.{PlaceSet, has, is_nowhere}

@@ -4,9 +4,9 @@
 ghost use Rattle.std.specs.Prelude.{ℕ, Bool, List};
 ghost use Rattle.program_model.specs.declared.program.Program.{Program};
 ghost use Rattle.program_model.specs.declared.tree.Body.{Body};
-ghost use Rattle.java_control.specs.declared.action.Action.{Action};
-ghost use Rattle.java_control.specs.declared.action.Operator.{Operator};
-ghost use Rattle.java_control.specs.declared.action.PlainValue.{PlainValue};
+ghost use Rattle.control_actions.specs.declared.action.Action.{Action};
+ghost use Rattle.control_actions.specs.declared.action.Operator.{Operator};
+ghost use Rattle.control_actions.specs.declared.action.PlainValue.{PlainValue};
 ghost use Rattle.stub_conduct.specs.declared.choice.Choice.{Choice};
 ghost use Rattle.ledger_state.specs.declared.array.ArrayObject.{ArrayObject};
 ghost use Rattle.ledger_state.specs.declared.locals.Locals.{Locals};

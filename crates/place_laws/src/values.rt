@@ -4,9 +4,9 @@ ghost use Rattle.std.specs.Prelude.{◌≡◌, ℕ, ◌≤◌, true, Some, None,
 ghost use Rattle.program_model.specs.declared.kinds.MethodId.{MethodId};
 ghost use Rattle.program_model.specs.declared.program.Program.{Program};
 ghost use Rattle.program_model.specs.declared.tree.Body.{Body};
-ghost use Rattle.java_control.specs.declared.action.Action.{Action};
-ghost use Rattle.java_control.specs.declared.action.Edge.{Edge};
-ghost use Rattle.java_control.specs.declared.place.Place.{Place};
+ghost use Rattle.control_actions.specs.declared.action.Action.{Action};
+ghost use Rattle.control_actions.specs.declared.action.Edge.{Edge};
+ghost use Rattle.control_actions.specs.declared.place.Place.{Place};
 ghost use Rattle.java_control.specs.PlaceNumbers.{IsSmall};
 ghost use Rattle.java_control.specs.Sources.{source};
 ghost use Rattle.step_laws.specs.Facts.{PlaceSet};

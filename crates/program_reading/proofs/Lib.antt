@@ -1,7 +1,3 @@
-mod FileNames
-mod InputNumbers
-mod Results
-mod SignedProgram
 mod TypedTables
 pub use Rattle.program_elaboration.proofs.BodyTables
 pub use Rattle.program_elaboration.proofs.BodyTyping
@@ -12,7 +8,7 @@ pub use Rattle.class_table.proofs.KnownLemmas
 pub use Rattle.class_table.proofs.Owners
 pub use Rattle.program_elaboration.proofs.ParameterTyping
 pub use Rattle.program_elaboration.proofs.PlainStatements
-pub use Rattle.well_formed_programs.proofs.SignedTwice
+pub use Rattle.signed_programs.proofs.SignedTwice
 pub use Rattle.program_elaboration.proofs.Stands
 pub use Rattle.program_elaboration.proofs.StatementHeadLaws
 pub use Rattle.program_elaboration.proofs.StatementTyping

@@ -1,7 +1,4 @@
-pub mod Inputs
-pub mod Fronts
 pub mod TypedPrograms
-pub mod SignedPrograms
 pub mod Programs
 pub use Rattle.program_elaboration.specs.Bodies
 pub use Rattle.program_elaboration.specs.BodiesOfTables
@@ -15,7 +12,9 @@ pub use Rattle.program_elaboration.specs.ElaboratedBodies
 pub use Rattle.program_elaboration.specs.FieldInitializers
 pub use Rattle.program_elaboration.specs.JavaElaborationElaborations
 pub use Rattle.class_table.specs.Methods
-pub use Rattle.file_numbers.specs.Numbering
+pub use Rattle.command_trees.specs.Fronts
+pub use Rattle.command_trees.specs.Inputs
+pub use Rattle.command_trees.specs.Numbering
 pub use Rattle.program_elaboration.specs.OrderedTrees
 pub use Rattle.program_elaboration.specs.Parameters
 pub use Rattle.class_table.specs.Passes
@@ -34,12 +33,13 @@ pub use Rattle.class_table.specs.SuperPass
 pub use Rattle.class_table.specs.SuperTypes
 pub use Rattle.program_elaboration.specs.Surroundings
 pub use Rattle.class_table.specs.Table
-pub use Rattle.signature_rules.specs.TextCases
-pub use Rattle.signature_rules.specs.TextFieldCases
-pub use Rattle.signature_rules.specs.ResultCases
-pub use Rattle.signature_rules.specs.OwnerCases
+pub use Rattle.signed_programs.specs.OwnerCases
+pub use Rattle.signed_programs.specs.ResultCases
+pub use Rattle.signed_programs.specs.SignedPrograms
+pub use Rattle.signed_programs.specs.TextCases
+pub use Rattle.signed_programs.specs.TextFieldCases
 pub use Rattle.program_elaboration.specs.TypedBodies
 pub use Rattle.program_elaboration.specs.TypedStatements
 pub use Rattle.program_elaboration.specs.TypedTrees
 pub use Rattle.program_elaboration.specs.TypingContexts
-pub use Rattle.must_call_types.specs.WellFormed
+pub use Rattle.signed_programs.specs.WellFormed

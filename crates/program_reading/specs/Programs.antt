@@ -4,10 +4,10 @@ use Rattle.rlc_base.specs.declared.faults.Stop.{Stop}
 use Rattle.java_syntax.specs.declared.declaration_trees.Unit as tree
 use Rattle.java_syntax.specs.declared.settings.Settings.{Settings}
 use Rattle.program_model.specs.declared.program.Program.{Program}
-use Rattle.must_call_types.specs.WellFormed.{IsWellFormed}
-use Rattle.signature_rules.specs.RulePasses.{HasNoRuleCase}
-use Rattle.program_reading.specs.Fronts.{IsFilesStop, IsFront}
-use Rattle.program_reading.specs.SignedPrograms.{IsAnnotated, IsSigningStop}
+use Rattle.signed_programs.specs.WellFormed.{IsWellFormed}
+use Rattle.signed_programs.specs.RulePasses.{HasNoRuleCase}
+use Rattle.command_trees.specs.Fronts.{IsFilesStop, IsFront}
+use Rattle.signed_programs.specs.SignedPrograms.{IsAnnotated, IsSigningStop}
 use Rattle.program_reading.specs.TypedPrograms.{IsTyped, IsTypingStop}
 
 -- what a command reads: its settings, and the file words with the texts of their files, in the order of the words

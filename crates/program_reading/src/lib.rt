@@ -2,12 +2,8 @@
 //! the annotations, and the rules on signatures; or the first refusal in this order.
 #![tactic(auto)]
 
-mod fronts;
-mod inputs;
-mod names;
 mod reading;
-mod signing;
 mod typing;
 
-pub use names::{file_names, files_have_their_names};
+pub use command_trees::{file_names, files_have_their_names};
 pub use reading::read_program;

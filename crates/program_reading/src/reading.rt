@@ -1,17 +1,17 @@
 //! The program that the files of a command make.
 
 ghost use Rattle.std.specs.Prelude.{◌-◌, ◌<◌, ◌^◌, All, IfErr, IfOk, length, map};
-ghost use Rattle.must_call_types.specs.WellFormed.{HasSmallInterests};
+ghost use Rattle.signed_programs.specs.WellFormed.{HasSmallInterests};
 ghost use Rattle.class_table.specs.Methods.{HasFewParameters};
 ghost use Rattle.program_reading.specs.Programs.{IsProgram, IsProgramStop};
-ghost use Rattle.program_reading.specs.SignedPrograms.{HasListedFields};
+ghost use Rattle.signed_programs.specs.SignedPrograms.{HasListedFields};
 
-use crate::fronts::front;
-use crate::signing::signed;
 use crate::typing::typed;
+use command_trees::front;
 use java_syntax::Settings;
 use program_model::Program;
 use rlc_base::{Stop, Text};
+use signed_programs::signed;
 use std::alloc::Global;
 
 /// The program that the files of a command make under these settings. `words` are the file words, and `texts` what their files hold,

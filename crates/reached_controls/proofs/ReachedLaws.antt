@@ -6,9 +6,9 @@ use Rattle.program_model.specs.declared.program.Program.{Program}
 use Rattle.fact_pool.specs.declared.handle.Handle.{Handle}
 use Rattle.java_cfg.specs.Graphs.{IsGraphOf}
 use Rattle.java_cfg.specs.declared.arc.Arc.{Arc}
-use Rattle.java_control.specs.Remaining.{Todo}
-use Rattle.java_control.specs.declared.fact.Fact.{Fact}
-use Rattle.java_control.specs.declared.fact.Origin.{Origin}
+use Rattle.control_actions.specs.Remaining.{Todo}
+use Rattle.control_actions.specs.declared.fact.Fact.{Fact}
+use Rattle.control_actions.specs.declared.fact.Origin.{Origin}
 use Rattle.graph_relation.specs.Nodes.{relation_in}
 use Rattle.graph_relation.proofs.FaultLaws.{control_reach, node_reach}
 use Rattle.reached_facts.specs.Reading.{AreReachedPairs}

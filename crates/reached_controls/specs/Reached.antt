@@ -4,9 +4,9 @@ use Rattle.program_model.specs.declared.kinds.BodyId.{BodyId}
 use Rattle.program_model.specs.declared.program.Program.{Program}
 use Rattle.breadth_first.specs.Searches.{AreOnce, IsAt, Stands}
 use Rattle.fact_pool.specs.declared.handle.Handle.{Handle}
-use Rattle.java_control.specs.Remaining.{Todo}
-use Rattle.java_control.specs.declared.fact.Fact.{Fact}
-use Rattle.java_control.specs.declared.fact.Origin.{Origin}
+use Rattle.control_actions.specs.Remaining.{Todo}
+use Rattle.control_actions.specs.declared.fact.Fact.{Fact}
+use Rattle.control_actions.specs.declared.fact.Origin.{Origin}
 use Rattle.reached_facts.specs.Numbering.{numbered}
 use Rattle.graph_relation.specs.Paths.{Reach, relation_of}
 

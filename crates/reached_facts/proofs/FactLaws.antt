@@ -1,11 +1,11 @@
 -- The `==` of facts and of origins is equality.
 use Rattle.std.proofs.Common.{◌≡◌, rules, subst, true}
 use Rattle.rlc_base.specs.NameSet.{is_same_tells}
-use Rattle.java_control.specs.declared.fact.Fact.{Fact}
-use Rattle.java_control.specs.declared.fact.Origin.{Origin}
+use Rattle.control_actions.specs.declared.fact.Fact.{Fact}
+use Rattle.control_actions.specs.declared.fact.Origin.{Origin}
 use Rattle.body_origins.specs.Origins.{same_origin}
-use Rattle.java_control.specs.contracts.fact.FactPartialEq.TheImpl as fact_eq
-use Rattle.java_control.specs.contracts.fact.FactEq.TheImpl.Laws as fact_laws
+use Rattle.control_actions.specs.contracts.fact.FactPartialEq.TheImpl as fact_eq
+use Rattle.control_actions.specs.contracts.fact.FactEq.TheImpl.Laws as fact_laws
 use Rattle.reached_pairs.specs.Visited.{IsExact}
 
 same_fact : (x y : Fact) → (fact_eq.ghosts).eq x y ≡ true → x ≡ y

@@ -10,10 +10,10 @@ use Rattle.fact_search.specs.Walks.{IsWalk}
 use Rattle.reached_pairs.proofs.ListLaws.{at_map, at_same}
 use Rattle.fact_search.specs.Searched.{IsSearchCause, ReachMany}
 use Rattle.java_cfg.specs.declared.arc.Arc.{Arc}
-use Rattle.java_control.specs.declared.fact.Fact.{Fact}
-use Rattle.java_control.specs.declared.fact.Origin.{Origin}
-use Rattle.java_control.specs.declared.fact.Outcome.{Outcome}
-use Rattle.java_control.specs.declared.fact.Outcome.TheVariants.{Next, Gone, Fault}
+use Rattle.control_actions.specs.declared.fact.Fact.{Fact}
+use Rattle.control_actions.specs.declared.fact.Origin.{Origin}
+use Rattle.control_actions.specs.declared.fact.Outcome.{Outcome}
+use Rattle.control_actions.specs.declared.fact.Outcome.TheVariants.{Next, Gone, Fault}
 use Rattle.body_origins.specs.Flow.{flow}
 use Rattle.body_origins.specs.Numbering.{numbered, numbered_outcome}
 use Rattle.body_origins.specs.Paths.{Comes, Reach, start, on, entered, born, flowed}

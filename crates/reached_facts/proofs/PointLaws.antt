@@ -7,11 +7,11 @@ use Rattle.reached_pairs.specs.Searches.{AreOnce, IsAt, Source, Stands}
 use Rattle.fact_search.specs.Turns.{AreStarts, AreSteps}
 use Rattle.reached_pairs.proofs.ListLaws.{at_same, map_at, stands_map}
 use Rattle.java_cfg.specs.declared.arc.Arc.{Arc}
-use Rattle.java_control.specs.declared.fact.Fact.{Fact}
-use Rattle.java_control.specs.declared.fact.Origin.{Origin}
-use Rattle.java_control.specs.declared.fact.Outcome.{Outcome}
-use Rattle.java_control.specs.declared.fact.Outcome.TheVariants.{Next, Gone, Fault}
-use Rattle.java_control.specs.contracts.fact.OriginEq.TheImpl.Laws as origin_laws
+use Rattle.control_actions.specs.declared.fact.Fact.{Fact}
+use Rattle.control_actions.specs.declared.fact.Origin.{Origin}
+use Rattle.control_actions.specs.declared.fact.Outcome.{Outcome}
+use Rattle.control_actions.specs.declared.fact.Outcome.TheVariants.{Next, Gone, Fault}
+use Rattle.control_actions.specs.contracts.fact.OriginEq.TheImpl.Laws as origin_laws
 use Rattle.body_origins.specs.Births.{Birth, births_at_entry}
 use Rattle.body_origins.specs.Flow.{flow}
 use Rattle.body_origins.specs.Numbering.{numbered}

@@ -10,9 +10,9 @@ use Rattle.fact_pool.specs.declared.handle.Handle.{Handle}
 use Rattle.fact_search.specs.Searched.{IsSearched}
 use Rattle.fact_search.proofs.SearchedLaws.{searched_all, visit_reached}
 use Rattle.java_cfg.specs.declared.arc.Arc.{Arc}
-use Rattle.java_control.specs.declared.fact.Fact.{Fact}
-use Rattle.java_control.specs.declared.fact.Origin.{Origin}
-use Rattle.java_control.specs.declared.fact.Outcome.TheVariants.{Next}
+use Rattle.control_actions.specs.declared.fact.Fact.{Fact}
+use Rattle.control_actions.specs.declared.fact.Origin.{Origin}
+use Rattle.control_actions.specs.declared.fact.Outcome.TheVariants.{Next}
 use Rattle.body_origins.specs.Births.{births_of_step}
 use Rattle.body_origins.specs.Flow.{flow}
 use Rattle.body_origins.specs.Numbering.{numbered, numbered_outcome}

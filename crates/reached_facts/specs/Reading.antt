@@ -4,8 +4,8 @@ use Rattle.program_model.specs.declared.kinds.BodyId.{BodyId}
 use Rattle.program_model.specs.declared.program.Program.{Program}
 use Rattle.reached_pairs.specs.Searches.{AreOnce, IsAt, Stands}
 use Rattle.fact_pool.specs.declared.handle.Handle.{Handle}
-use Rattle.java_control.specs.declared.fact.Fact.{Fact}
-use Rattle.java_control.specs.declared.fact.Origin.{Origin}
+use Rattle.control_actions.specs.declared.fact.Fact.{Fact}
+use Rattle.control_actions.specs.declared.fact.Origin.{Origin}
 use Rattle.body_origins.specs.Numbering.{numbered}
 use Rattle.body_origins.specs.Paths.{Reach, Relation}
 

@@ -5,15 +5,15 @@ use Rattle.program_model.specs.declared.kinds.BodyId.{BodyId}
 use Rattle.program_model.specs.declared.program.Program.{Program}
 use Rattle.reached_pairs.specs.Searches.{AreOnce, IsAt, Stands}
 use Rattle.java_cfg.specs.declared.arc.Arc.{Arc}
-use Rattle.java_control.specs.declared.fact.Fact.{Fact}
-use Rattle.java_control.specs.declared.fact.Origin.{Origin}
-use Rattle.java_control.specs.declared.fact.Outcome.TheVariants.{Next, Fault}
-use Rattle.java_control.specs.declared.fact.Rule.{Rule}
+use Rattle.control_actions.specs.declared.fact.Fact.{Fact}
+use Rattle.control_actions.specs.declared.fact.Origin.{Origin}
+use Rattle.control_actions.specs.declared.fact.Outcome.TheVariants.{Next, Fault}
+use Rattle.control_actions.specs.declared.fact.Rule.{Rule}
 use Rattle.body_origins.specs.Births.{Birth, births_at_entry}
 use Rattle.java_cfg.specs.Facts.{Names}
 use Rattle.body_origins.specs.Flow.{flow}
 use Rattle.body_origins.specs.Numbering.{numbered}
-use Rattle.java_control.specs.Remaining.{Todo}
+use Rattle.control_actions.specs.Remaining.{Todo}
 use Rattle.body_origins.specs.Nodes.{AreNodes, FitsRows, arcs_at}
 use Rattle.body_origins.specs.Origins.{arc_births}
 

@@ -11,9 +11,9 @@ ghost use Rattle.body_origins.specs.Origins.{arc_births, same_origin};
 ghost use Rattle.reached_facts.specs.Points.{bare_points, birth_point, birth_points, entry_points, fact_points, flat_from};
 
 use body_origins::{all_entry_births, all_step_births, flow};
+use control_actions::{Fact, Origin, Outcome};
 use indexmap::IndexSet;
 use java_cfg::Arc;
-use java_control::{Fact, Origin, Outcome};
 use program_model::{BodyId, Program};
 use reached_pairs::{Point, Source};
 use std::alloc::{AllocError, Global};

@@ -13,11 +13,11 @@ ghost use Rattle.reached_facts.specs.Reading.{AreReachedPairs};
 ghost use Rattle.reached_facts.specs.Steps.{Begins, IsReady, Leads};
 
 use crate::points::{all_bare_points, all_entry_points, all_fact_points};
+use control_actions::{Fact, Origin};
 use fact_pool::{Pool, Region};
 use fact_search::{Transitions, search};
 use indexmap::IndexSet;
 use java_cfg::Graph;
-use java_control::{Fact, Origin};
 use program_model::{BodyId, Program};
 use reached_pairs::{Point, Visits};
 use rlc_base::{Pos, Stop};

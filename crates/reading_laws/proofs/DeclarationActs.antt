@@ -8,7 +8,7 @@ use Rattle.java_syntax.specs.declared.actions.Action.{Action}
 use Rattle.java_syntax.specs.declared.actions.Action.TheVariants as action
 use Rattle.java_syntax.specs.declared.actions.DeclarationAction.{DeclarationAction}
 use Rattle.java_syntax.specs.declared.actions.DeclarationAction.TheVariants as declares
-use Rattle.java_actions.specs.DeclarationActions.{perform_declaration}
+use Rattle.java_statement_actions.specs.DeclarationActions.{perform_declaration}
 use Rattle.reading_laws.specs.Names as names
 use Rattle.reading_laws.specs.Names.{Is, AreInOrder}
 use Rattle.reading_laws.specs.Statements as statements

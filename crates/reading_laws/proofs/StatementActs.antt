@@ -8,7 +8,7 @@ use Rattle.java_syntax.specs.declared.actions.Action.TheVariants as action
 use Rattle.java_syntax.specs.declared.actions.StatementAction.{StatementAction}
 use Rattle.java_syntax.specs.declared.actions.StatementAction.TheVariants as states
 use Rattle.java_syntax.specs.StatementTrees as tree
-use Rattle.java_actions.specs.StatementActions.{perform_statement}
+use Rattle.java_statement_actions.specs.StatementActions.{perform_statement}
 use Rattle.reading_laws.specs.Names as names
 use Rattle.reading_laws.specs.Names.{Is, BeginAt}
 use Rattle.reading_laws.specs.Expressions as expressions

@@ -11,9 +11,9 @@ use Rattle.java_syntax.specs.Derives.{Lexeme}
 use Rattle.java_syntax.specs.StatementTrees as tree
 use Rattle.java_syntax.specs.StatementTrees.{StmtTree, BlockTree}
 use Rattle.java_values.specs.Values.{ValueTree, APlace, AExpression, AOperations}
-use Rattle.java_values.specs.Operators.{infix_operator}
-use Rattle.java_values.specs.Parts.{level_of, comparison, closed, ClosedTree}
-use Rattle.java_actions.specs.TokenActions.{perform_token}
+use Rattle.java_expression_nodes.specs.Operators.{infix_operator}
+use Rattle.java_expression_nodes.specs.Parts.{level_of, comparison, closed, ClosedTree}
+use Rattle.java_expression_actions.specs.TokenActions.{perform_token}
 use Rattle.reading_laws.specs.Names as names
 use Rattle.reading_laws.specs.Names.{Is, BeginAt}
 use Rattle.reading_laws.specs.Expressions as expressions

@@ -5,10 +5,10 @@ use Rattle.rlc_base.specs.declared.place.Pos.{Pos}
 use Rattle.program_model.specs.declared.kinds.BodyId.{BodyId}
 use Rattle.java_control.specs.Control.{next_of, start_of}
 use Rattle.java_control.specs.Remaining.{Todo}
-use Rattle.java_control.specs.declared.action.Action.TheVariants as actions
-use Rattle.java_control.specs.declared.action.Edge.TheVariants as edges
-use Rattle.java_control.specs.declared.fact.Origin.{Origin}
-use Rattle.java_control.specs.declared.fact.Rule.{Rule}
+use Rattle.control_actions.specs.declared.action.Action.TheVariants as actions
+use Rattle.control_actions.specs.declared.action.Edge.TheVariants as edges
+use Rattle.control_actions.specs.declared.fact.Origin.{Origin}
+use Rattle.control_actions.specs.declared.fact.Rule.{Rule}
 use Rattle.obligation_facts.specs.Facts.{Names}
 use Rattle.soundness_laws.specs.Births.{births_of_step}
 use Rattle.soundness_laws.specs.Flow.{flow}

@@ -6,8 +6,8 @@ use Rattle.std.specs.List.{range_with_len}
 use Rattle.rlc_base.specs.declared.name_id.NameId.{NameId}
 use Rattle.program_model.specs.declared.program.Program.{Program}
 use Rattle.must_call_sets.specs.MustCallSets.{Names, is_empty, is_heavy_class, must_of}
-use Rattle.java_control.specs.declared.action.Action.TheVariants as actions
-use Rattle.java_control.specs.declared.action.TargetForm.TheVariants as forms
+use Rattle.control_actions.specs.declared.action.Action.TheVariants as actions
+use Rattle.control_actions.specs.declared.action.TargetForm.TheVariants as forms
 use Rattle.stub_conduct.specs.declared.choice.Conduct.TheVariants as conducts
 use Rattle.ledger_entries.specs.Entries.{by_number, called_line, called_lines, in_order, leak_entries, names_in_order}
 use Rattle.ledger_state.specs.Contents.{HeapContents}

@@ -2,8 +2,8 @@
 use Rattle.std.proofs.Common.{◌≡◌, Bool, true, not, ◌&&◌, cond, if◌then◌else◌, Some, List, [], ◌∷◌, ◌++◌, map, ap, ◌∙◌}
 use Rattle.std.specs.FinSet as set
 use Rattle.must_call_sets.specs.MustCallSets.{is_heavy_class}
-use Rattle.java_control.specs.declared.action.Action.TheVariants as actions
-use Rattle.java_control.specs.declared.action.TargetForm.TheVariants as forms
+use Rattle.control_actions.specs.declared.action.Action.TheVariants as actions
+use Rattle.control_actions.specs.declared.action.TargetForm.TheVariants as forms
 use Rattle.stub_conduct.specs.declared.choice.Conduct.TheVariants as conducts
 use Rattle.ledger_entries.specs.Entries.{by_number, called_line, leak_entries}
 use Rattle.ledger_state.specs.Contents.{HeapContents}

@@ -2,7 +2,7 @@
 use Rattle.std.proofs.Common.{◌≡◌, ℕ, zero, suc, ◌+◌, Bool, true, false, not, ◌&&◌, ◌==◌, refl, ap, ◌∙◌}
 use Rattle.std.specs.FinSet as set
 use Rattle.java_control.specs.PlaceNumbers.{number_of}
-use Rattle.java_control.specs.declared.place.Place.TheVariants as places
+use Rattle.control_actions.specs.declared.place.Place.TheVariants as places
 use Rattle.obligation_facts.specs.Facts.{PlaceSet, without, without_fields, without_fields_from, without_parts}
 use Rattle.safety_examples.proofs.OwnerSets.{removed}
 

@@ -2,8 +2,8 @@
 use Rattle.std.proofs.Common.{◌≡◌, List, [], ◌∷◌, All, refl, sym, subst, lit<, arith}
 use Rattle.java_control.specs.Control.{next_of, start_of}
 use Rattle.java_control.specs.Remaining.{Todo}
-use Rattle.java_control.specs.declared.action.Action.TheVariants as actions
-use Rattle.java_control.specs.declared.action.Edge.TheVariants as edges
+use Rattle.control_actions.specs.declared.action.Action.TheVariants as actions
+use Rattle.control_actions.specs.declared.action.Edge.TheVariants as edges
 use Rattle.obligation_facts.specs.SmallActions.{IsSmallAction}
 use Rattle.soundness_laws.specs.Births.{births_at_entry, births_of_step}
 use Rattle.safety_examples.specs.Certificates.{IsCertificate, IsFollowed, IsListed, Placed, placed}

@@ -3,7 +3,7 @@ use Rattle.std.proofs.Common.{ℕ, List, [], slice_index_or, All, Contains}
 use Rattle.std.specs.List.{AllByRecursion}
 use Rattle.program_model.specs.declared.kinds.BodyId.{BodyId}
 use Rattle.java_control.specs.Remaining.{Todo}
-use Rattle.java_control.specs.declared.action.Action.{Action}
+use Rattle.control_actions.specs.declared.action.Action.{Action}
 use Rattle.soundness_laws.specs.Births.{births_of_step}
 use Rattle.soundness_laws.specs.Flow.{flow}
 use Rattle.soundness_laws.specs.Paths.{Move, Relation, relation_of}

@@ -5,9 +5,9 @@ use Rattle.rlc_base.specs.declared.place.Pos.{Pos}
 use Rattle.program_model.specs.declared.kinds.BodyId.{BodyId}
 use Rattle.java_control.specs.Control.{next_of}
 use Rattle.java_control.specs.Remaining.{Todo}
-use Rattle.java_control.specs.declared.action.Action.{Action}
-use Rattle.java_control.specs.declared.fact.Origin.{Origin}
-use Rattle.java_control.specs.declared.fact.Rule.{Rule}
+use Rattle.control_actions.specs.declared.action.Action.{Action}
+use Rattle.control_actions.specs.declared.fact.Origin.{Origin}
+use Rattle.control_actions.specs.declared.fact.Rule.{Rule}
 use Rattle.obligation_facts.specs.Facts.{Names}
 use Rattle.soundness_laws.specs.Paths.{Comes, Faulty, Move, relation_of}
 use Rattle.safety_examples.specs.Certificates.{IsCertificate, Placed}

@@ -1,10 +1,10 @@
 -- What is left to run at the controls of the program's bodies, in the order in which they are reached.
 use Rattle.std.specs.Prelude.{List, [], ◌∷◌}
-use Rattle.java_control.specs.declared.action.Action.TheVariants as actions
-use Rattle.java_control.specs.declared.action.Completion.TheVariants as completions
-use Rattle.java_control.specs.declared.action.Scope.TheVariants as scopes
-use Rattle.java_control.specs.declared.action.TargetForm.TheVariants as forms
-use Rattle.java_control.specs.declared.place.Place.TheVariants as places
+use Rattle.control_actions.specs.declared.action.Action.TheVariants as actions
+use Rattle.control_actions.specs.declared.action.Completion.TheVariants as completions
+use Rattle.control_actions.specs.declared.action.Scope.TheVariants as scopes
+use Rattle.control_actions.specs.declared.action.TargetForm.TheVariants as forms
+use Rattle.control_actions.specs.declared.place.Place.TheVariants as places
 use Rattle.java_control.specs.Remaining.{Todo, Do, Ev, Act, Out, Ended}
 use Rattle.safety_examples.specs.OwnerPrograms.{expression_number, in_source, statement_number}
 use Rattle.safety_examples.specs.OwnerPrograms.{resource_close, resource_constructor}

@@ -1,11 +1,11 @@
 -- What is left to run at the controls of the program's bodies, in the order in which they are reached.
 use Rattle.std.specs.Prelude.{List, [], ◌∷◌}
-use Rattle.java_control.specs.declared.action.Action.TheVariants as actions
-use Rattle.java_control.specs.declared.action.Completion.{Completion}
-use Rattle.java_control.specs.declared.action.Completion.TheVariants as completions
-use Rattle.java_control.specs.declared.action.Scope.TheVariants as scopes
-use Rattle.java_control.specs.declared.action.TargetForm.TheVariants as forms
-use Rattle.java_control.specs.declared.place.Place.TheVariants as places
+use Rattle.control_actions.specs.declared.action.Action.TheVariants as actions
+use Rattle.control_actions.specs.declared.action.Completion.{Completion}
+use Rattle.control_actions.specs.declared.action.Completion.TheVariants as completions
+use Rattle.control_actions.specs.declared.action.Scope.TheVariants as scopes
+use Rattle.control_actions.specs.declared.action.TargetForm.TheVariants as forms
+use Rattle.control_actions.specs.declared.place.Place.TheVariants as places
 use Rattle.java_control.specs.Remaining.{Todo, Do, Ev, Act, Out, Ended}
 use Rattle.safety_examples.specs.CarefulPrograms.{expression_number, in_source, io_exception, socket_close, socket_constructor, statement_number}
 use Rattle.safety_examples.specs.ThrowingPrograms.{shut}

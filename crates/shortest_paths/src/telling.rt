@@ -7,7 +7,7 @@ ghost use Rattle.fact_pool.specs.declared.handle.Handle.{Handle as DeclaredHandl
 ghost use Rattle.reached_facts.specs.Searched.{IsSearched};
 ghost use Rattle.java_cfg.specs.Contents.{arcs_of, nodes_of};
 ghost use Rattle.java_cfg.specs.declared.arc.Arc.{Arc as DeclaredArc};
-ghost use Rattle.java_control.specs.declared.fact.Fact.{Fact as DeclaredFact};
+ghost use Rattle.control_actions.specs.declared.fact.Fact.{Fact as DeclaredFact};
 ghost use Rattle.reached_pairs.specs.Visited.{fact_in};
 ghost use Rattle.reached_pairs.specs.declared.visit.Source.{Source as DeclaredSource};
 ghost use Rattle.reached_pairs.specs.declared.visit.Visit.{Visit as DeclaredVisit};
@@ -15,10 +15,10 @@ ghost use Rattle.reached_facts.specs.Nodes.{arcs_at, relation_in};
 ghost use Rattle.reached_facts.specs.Steps.{Begins, IsReady, Leads};
 ghost use Rattle.shortest_paths.specs.Telling.{AreToldBack, IsShortestPath, IsToldStep};
 
+use control_actions::Fact;
 use fact_pool::{Handle, Pool, Region};
 use flow_rules::PathStep;
 use java_cfg::Graph;
-use java_control::Fact;
 use reached_facts::BodyFlow;
 use reached_pairs::{Source, Visits};
 use std::alloc::{AllocError, Global};

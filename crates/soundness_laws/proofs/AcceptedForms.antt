@@ -1,5 +1,5 @@
 -- What is accepted has the plain forms.
-use Rattle.std.proofs.Common.{◌≡◌, ℕ, zero, suc, true, false, not, ◌||◌, Option, Some, None, IsSomeAnd, List, [], map, slice_get, refl, sym, ap, ◌∙◌, subst, true≢false}
+use Rattle.std.proofs.Common.{◌≡◌, ℕ, true, false, not, ◌||◌, Option, Some, None, IsSomeAnd, List, slice_get, refl, sym, ap, ◌∙◌, subst, true≢false}
 use Rattle.std.proofs.lemmas.Bool.{and_from, or_left, or_right}
 use Rattle.program_model.specs.declared.kinds.BodyId.{BodyId}
 use Rattle.program_model.specs.declared.kinds.ClassId.{ClassId}
@@ -16,18 +16,17 @@ use Rattle.program_model.specs.SuperTests.{is_class}
 use Rattle.ledger_obligations.specs.Bodies.{constructs, has_field_place, is_class_of, is_constructor, is_constructor_kind, is_extended, is_field_in, is_super, method_in, method_of}
 use Rattle.must_call_reset.specs.OwningCases.{is_assigned_from_outside, is_class_type, may_hold_unseen_reset}
 use Rattle.java_control.specs.Calls.{called_method}
-use Rattle.java_control.specs.Control.{next_of, steps_in}
 use Rattle.java_control.specs.Owned.{is_beside_method, is_owning, is_owning_field}
 use Rattle.java_control.specs.Remaining.{Todo}
-use Rattle.java_control.specs.declared.action.Action.{Action}
-use Rattle.java_control.specs.declared.action.Action.TheVariants as actions
+use Rattle.control_actions.specs.declared.action.Action.{Action}
+use Rattle.control_actions.specs.declared.action.Action.TheVariants as actions
 use Rattle.program_model.proofs.HierarchyLaws.{is_under_law}
-use Rattle.content_laws.specs.Paths.{Comes, Move, move_of, relation_of}
+use Rattle.content_laws.specs.Paths.{Comes, Move, relation_of}
 use Rattle.content_laws.specs.Accept.{Accept}
 use Rattle.content_laws.proofs.DispatchOwners.{runs_own}
 use Rattle.content_laws.specs.Constructors.{CallsSuperClass, IsOfSuperClass, StoresOwnField}
 use Rattle.content_laws.proofs.ConstructorReached.{has_its_place}
-use Rattle.content_laws.proofs.AliasedResets.{aliased_resets_nothing}
+use Rattle.content_laws.proofs.StartReached.{body_there}
 use Rattle.soundness_laws.proofs.FieldsAlone.{owners_alone}
 use Rattle.soundness_laws.proofs.FieldShapes.{any_at, not_true, same_class, well_shaped}
 use Rattle.soundness_laws.proofs.MadeClasses.{concrete_by}
@@ -43,19 +42,6 @@ unfolding run_by
 own_methods p ac named m n d f x i at_n at_d made = runs_own p ac named m n d f x i at_n at_d (concrete_by p d.class made)
 
 -- ---- steps of constructors
-
--- a body that takes a step is there
-body_there : (p : Program) (b : BodyId) (k : List Todo) (i : ℕ) (t : Move (List Todo)) → slice_get ((relation_of p b).next k) i ≡ Some t → (x : Body) × (body_at p b ≡ Some x)
-unfolding next_of
-body_there p b k i t there = go (body_at p b) refl there
-  where
-    go : (x : Option Body) → body_at p b ≡ x → slice_get (map move_of (steps_in p x k)) i ≡ Some t → (x : Body) × (body_at p b ≡ Some x)
-    go None at step = absurd (none i step)
-      where
-        none : (n : ℕ) → slice_get [] n ≡ Some t → ⊥
-        none zero is = let never : None ≡ Some t = is in cc
-        none (suc n) is = let never : None ≡ Some t = is in cc
-    go (Some x) at step = (x, at)
 
 -- a constructor calls the super constructor
 super_in_constructor : (p : Program) (x : Body) (a : Action) → calls_constructor p a ≡ true → CallsSuperClass p x a → constructs (method_at p x.method) ≡ true
@@ -149,5 +135,4 @@ module _ (p : Program) (ac : Accept p) where
       library = λ c d under is. files.library c d ((is_under_law p ac.well_formed.valid.typed.hierarchy c d).0 under) is;
       given = files.given.results;
       alone = owners_alone p ac files;
-      aliased = λ b {k} i t comes there is. aliased_resets_nothing p ac b i t comes there is;
     }

@@ -19,12 +19,12 @@ use Rattle.ledger_obligations.specs.OverrideCases.{differ}
 use Rattle.ownership_rules.specs.Signatures.{is_present}
 use Rattle.java_control.specs.Calls.{called_method}
 use Rattle.java_control.specs.Control.{Step}
-use Rattle.java_control.specs.declared.action.Action.{Action}
-use Rattle.java_control.specs.declared.action.Action.TheVariants as actions
-use Rattle.java_control.specs.declared.action.Completion.{Completion}
-use Rattle.java_control.specs.declared.action.Edge.TheVariants as edges
-use Rattle.java_control.specs.declared.action.TargetForm.{TargetForm}
-use Rattle.java_control.specs.declared.fact.OriginKind.TheVariants as kinds
+use Rattle.control_actions.specs.declared.action.Action.{Action}
+use Rattle.control_actions.specs.declared.action.Action.TheVariants as actions
+use Rattle.control_actions.specs.declared.action.Completion.{Completion}
+use Rattle.control_actions.specs.declared.action.Edge.TheVariants as edges
+use Rattle.control_actions.specs.declared.action.TargetForm.{TargetForm}
+use Rattle.control_actions.specs.declared.fact.OriginKind.TheVariants as kinds
 use Rattle.ownership_rules.specs.Births.{origin_of}
 use Rattle.content_laws.specs.Accept.{Accept}
 use Rattle.content_laws.specs.Paths.{move_of}
@@ -46,7 +46,7 @@ use Rattle.content_laws.specs.Heaps.{GoesOn}
 use Rattle.content_laws.specs.ProgramCalls.{IsFinished, IsReturned, is_new}
 use Rattle.content_laws.specs.Naming.{IsOfItsKind}
 use Rattle.content_laws.proofs.NamedReached.{names_what_is_there}
-use Rattle.content_laws.specs.Agreement.{IsMade, IsMadeAfter, IsMadeBy, Stands, Tracks}
+use Rattle.content_laws.specs.Agreement.{IsMade, IsMadeAfter, IsMadeByNew, Stands, Tracks}
 use Rattle.content_laws.specs.PlainForms.{HasPlainForms, IsPlainAction, RunsFor}
 use Rattle.content_laws.specs.Outcomes.{IsCallRow}
 use Rattle.content_laws.specs.Steps.{RootsStay}
@@ -66,7 +66,7 @@ pub record IsAnswered (p : Program) (h : HeapContents) (fr caller : Frame) (q : 
   pub fit : RunsFor p method running
   pub normal : exception_class p h (thrown_in fr.locals q) ≡ None → t.edge ≡ edges.Go
   pub thrown : (c : ClassId) → exception_class p h (thrown_in fr.locals q) ≡ Some c → (k : ClassId) × (t.edge ≡ edges.Throws k)
-  pub makes : IsMadeBy p h t.action fr.locals.this
+  pub makes : IsMadeByNew p h t.action fr.locals.this
   pub later : IsMadeAfter p caller.locals t.action fr.locals.this
 
 and_false : (a b : Bool) → (a && b) ≡ false → a ≡ true → b ≡ false
@@ -135,7 +135,7 @@ module _ (p : Program) (ac : Accept p) (forms : HasPlainForms p) (h k : HeapCont
       where
         go : (a : Action) → t.action ≡ a → Tracks p k (frame_after p h caller t given) n y
         go actions.Skip is = absurd (true≢false (sym made.new ∙ ap is_new is))
-        go (actions.New m d c) is = by_new m d c is (subst (λ (a : Action). IsMadeBy p h a fr.locals.this) is answer.makes)
+        go (actions.New m d c) is = by_new m d c is (subst (λ (a : Action). IsMadeByNew p h a fr.locals.this) is answer.makes)
         go a is = absurd (true≢false (sym made.new ∙ ap is_new is))
 
   -- ---- an owning result

@@ -22,13 +22,13 @@ use Rattle.ledger_obligations.specs.MustCallSets.{Names, is_heavy_class, must_of
 use Rattle.ledger_obligations.specs.WellFormed.{HasSmallInterests}
 use Rattle.java_control.specs.Calls.{called_method}
 use Rattle.java_control.specs.Control.{Step}
-use Rattle.java_control.specs.declared.action.Action.{Action}
-use Rattle.java_control.specs.declared.action.Action.TheVariants as actions
-use Rattle.java_control.specs.declared.action.Completion.{Completion}
-use Rattle.java_control.specs.declared.action.Edge.{Edge}
-use Rattle.java_control.specs.declared.action.Edge.TheVariants as edges
-use Rattle.java_control.specs.declared.fact.Fact.{Fact}
-use Rattle.java_control.specs.declared.fact.Origin.{Origin}
+use Rattle.control_actions.specs.declared.action.Action.{Action}
+use Rattle.control_actions.specs.declared.action.Action.TheVariants as actions
+use Rattle.control_actions.specs.declared.action.Completion.{Completion}
+use Rattle.control_actions.specs.declared.action.Edge.{Edge}
+use Rattle.control_actions.specs.declared.action.Edge.TheVariants as edges
+use Rattle.control_actions.specs.declared.fact.Fact.{Fact}
+use Rattle.control_actions.specs.declared.fact.Origin.{Origin}
 use Rattle.ownership_rules.specs.Callees.{callee_in}
 use Rattle.ownership_rules.specs.Callees as callees
 use Rattle.ownership_rules.specs.Facts.{PlaceSet}
@@ -73,7 +73,7 @@ use Rattle.content_laws.proofs.Returned.{IsFrom, end_back, end_count, end_lines,
 use Rattle.content_laws.proofs.HeapFrameEnds.{contents_end_met, nothing_unmet_goes}
 use Rattle.soundness_laws.specs.Supports.{Supports}
 use Rattle.content_laws.specs.Chains.{HaveEnds, IsLast}
-use Rattle.content_laws.specs.Agreement.{Agrees, Awaits, HasMadeClasses, IsAwaited, IsMadeAfter, IsMadeBy, IsTracked, Stands, Tracks, TracksAs, is_answering}
+use Rattle.content_laws.specs.Agreement.{Agrees, Awaits, HasMadeClasses, IsAwaited, IsMadeAfter, IsMadeByNew, IsTracked, Stands, Tracks, TracksAs, is_answering}
 use Rattle.content_laws.specs.Anew.{is_target}
 use Rattle.content_laws.specs.HeapAnew.{is_anew_at_end}
 use Rattle.content_laws.specs.Sight.{ActsInSight, AllActInSight}
@@ -316,7 +316,7 @@ module _ (p : Program) (ac : Accept p) (forms : HasPlainForms p) (names : HasSma
   self_is : is_new t.action ≡ true → (w : ℕ) × (number_of fr.locals.this ≡ Some w) × (0 < w) × (w < next_number h)
   self_is new = go t.action refl new answer.makes
     where
-      go : (a : Action) → t.action ≡ a → is_new a ≡ true → IsMadeBy p h a fr.locals.this → (w : ℕ) × (number_of fr.locals.this ≡ Some w) × (0 < w) × (w < next_number h)
+      go : (a : Action) → t.action ≡ a → is_new a ≡ true → IsMadeByNew p h a fr.locals.this → (w : ℕ) × (number_of fr.locals.this ≡ Some w) × (0 < w) × (w < next_number h)
       go actions.Skip it new' made = absurd (true≢false (sym new'))
       go (actions.New m d c) it new' made = (made.0, ap number_of made.1, made.4, made.2)
       go a it new' made = absurd (true≢false (sym new'))
@@ -461,7 +461,7 @@ module _ (p : Program) (ac : Accept p) (forms : HasPlainForms p) (names : HasSma
       (λ gives. given_root n x before done (gives_normally tr.0.fact.places gives) (shown gives))
     where
       it : OwnsTarget p h waiting.0 frs caller n x
-      it = its_owner p ac forms h caller waiting.0 frs below j t there answer.row waiting.3 holds agrees.ends targets.0 sight.makes n x before heavy (inl owes) (inl done) renewed mine
+      it = its_owner p ac h caller waiting.0 frs below j t there answer.row waiting.3 holds agrees.ends targets.0 sight.makes n x before heavy (inl owes) (inl done) renewed mine
 
       tr : (w : TracksAs p h (is_renewed p h caller n) caller n x) × (w.fact ≡ it.covers.fact) × (w.origin ≡ it.covers.origin)
       tr = covered_tracks p ac h caller waiting.0 frs below (is_given p h caller n x.class) (is_reread p h caller n x.owner) n x it.covers it.key it.own it.kept it.temp it.there (is_renewed p h caller n) (read_alike p h caller n x.owner renewed)
@@ -681,7 +681,7 @@ module _ (p : Program) (ac : Accept p) (forms : HasPlainForms p) (names : HasSma
     )
 
     hand : HasInHand p h (IsLentFrom p h frs) at caller turned.0 target.0.owner
-    hand = elim (owned_or_lent p ac forms h caller waiting.0 frs below j t there answer.row waiting.3 holds agrees.ends targets.0 sight.makes turned.0 target.0 target.1 ready_target.1
+    hand = elim (owned_or_lent p ac h caller waiting.0 frs below j t there answer.row waiting.3 holds agrees.ends targets.0 sight.makes turned.0 target.0 target.1 ready_target.1
         (target_owes p h turned.0 n target.0 x.0 target.1 x.1 turned.2 still_owes) (inl ready_target.0) turned.1.0) [ inl it ↦ inl (it.key.owner it.kept it.own) | inr other ↦ inr other ]
 
     someones : IsSomeones

@@ -21,8 +21,8 @@ use Rattle.ledger_obligations.specs.Bodies.{constructs}
 use Rattle.ledger_obligations.specs.MustCallSets.{Names, fits, is_heavy_class, must_of, must_of_type}
 use Rattle.java_control.specs.Calls.{called_method, temp_at}
 use Rattle.java_control.specs.Control.{Step}
-use Rattle.java_control.specs.declared.action.Action.{Action}
-use Rattle.java_control.specs.declared.action.Action.TheVariants as actions
+use Rattle.control_actions.specs.declared.action.Action.{Action}
+use Rattle.control_actions.specs.declared.action.Action.TheVariants as actions
 use Rattle.ownership_rules.specs.Callees as callees
 use Rattle.ownership_rules.specs.Callees.{callee_in}
 use Rattle.ownership_rules.specs.MovesAtCalls.{moved_at_call}
@@ -51,7 +51,7 @@ use Rattle.content_laws.proofs.LibraryCallLaws.{appended_object_at-object, moved
 use Rattle.content_laws.specs.ProgramCalls.{IsNewAtStart, IsOlderAtStart}
 use Rattle.content_laws.proofs.Begun.{begun_count, begun_evolves, begun_from, begun_given, begun_leaks_nothing, begun_links, begun_makes}
 use Rattle.content_laws.specs.Chains.{HaveEnds, IsLast}
-use Rattle.content_laws.specs.Agreement.{Agrees, Awaits, HasMadeClasses, IsAwaited, IsMade, IsMadeAfter, IsMadeBy, IsTracked, RunsItself, RunsOnSame, Tracks, WaitsFor, is_answering}
+use Rattle.content_laws.specs.Agreement.{Agrees, Awaits, HasMadeClasses, IsAwaited, IsMade, IsMadeAfter, IsMadeByNew, IsTracked, RunsItself, RunsOnSame, Tracks, WaitsFor, is_answering}
 use Rattle.content_laws.specs.PlainForms.{HasPlainForms, MayRun, RunsFor, may_be_made}
 use Rattle.content_laws.specs.Outcomes.{IsCallRow}
 use Rattle.soundness_laws.specs.Supports.{Supports}
@@ -256,7 +256,7 @@ module _ (p : Program) (ac : Accept p) (forms : HasPlainForms p) (fr callee : Fr
     omega arith,
   )
 
-  made_by : (a : Action) → s.action ≡ a → IsMadeBy p heap a (self_begun fr.locals a h)
+  made_by : (a : Action) → s.action ≡ a → IsMadeByNew p heap a (self_begun fr.locals a h)
   made_by actions.Skip is = tt
   made_by (actions.New m d n) is =
       is_made m (let same : Some m ≡ Some named = ap called_method (sym is) ∙ start.calls in cc)
@@ -300,7 +300,7 @@ module _ (p : Program) (ac : Accept p) (forms : HasPlainForms p) (fr callee : Fr
     itself = subst (RunsItself s.action named) (sym start.begun.method) start.itself;
     kind = ap (λ (m : MethodId). constructs (method_at p m)) start.begun.method ∙ ap constructs start.begun.named ∙ start.fit.makes ∙ sym (ap constructs start.named_at);
     on_same = subst (RunsOnSame s.action fr.locals.this) (sym start.begun.this) (same_this s.action refl);
-    makes = subst (IsMadeBy p heap s.action) (sym start.begun.this) (made_by s.action refl);
+    makes = subst (IsMadeByNew p heap s.action) (sym start.begun.this) (made_by s.action refl);
     after = subst (IsMadeAfter p fr.locals s.action) (sym start.begun.this) (made_after s.action refl);
   }
 

@@ -5,10 +5,10 @@ use Rattle.program_model.specs.declared.program.Program.{Program}
 use Rattle.program_model.specs.declared.tree.Body.{Body}
 use Rattle.program_model.specs.Overrides.{is_library}
 use Rattle.ledger_obligations.specs.Bodies.{reset_in}
-use Rattle.java_control.specs.declared.action.Action.TheVariants as actions
-use Rattle.java_control.specs.declared.action.PlainValue.{PlainValue}
-use Rattle.java_control.specs.declared.action.PlainValue.TheVariants as plain
-use Rattle.java_control.specs.declared.place.Place.{Place}
+use Rattle.control_actions.specs.declared.action.Action.TheVariants as actions
+use Rattle.control_actions.specs.declared.action.PlainValue.{PlainValue}
+use Rattle.control_actions.specs.declared.action.PlainValue.TheVariants as plain
+use Rattle.control_actions.specs.declared.place.Place.{Place}
 use Rattle.content_laws.specs.Accept.{Accept}
 use Rattle.content_laws.specs.AgreementConditions.{MeetsFileConditions}
 use Rattle.content_laws.specs.PlainForms.{IsPlainRead}

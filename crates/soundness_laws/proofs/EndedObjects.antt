@@ -1,6 +1,5 @@
 -- Objects when a frame has ended: what becomes of their owners.
-use Rattle.std.proofs.Common.{if◌then◌else◌, ◌≡◌, ◌⊎◌, inl, inr, ℕ, ◌+◌, nat_lt, Bool, true, false, not, Option, Some, None, slice_get, refl, sym, ap, ◌∙◌, subst, true≢false, arith, eqb-true}
-use Rattle.std.proofs.lemmas.Bool.Decides.{nat_tests}
+use Rattle.std.proofs.Common.{if◌then◌else◌, ◌≡◌, ◌⊎◌, inl, inr, ℕ, ◌+◌, Bool, true, false, Option, Some, None, slice_get, refl, sym, ap, ◌∙◌, subst, true≢false, arith, eqb-true}
 use Rattle.program_model.specs.declared.kinds.ClassId.{ClassId}
 use Rattle.program_model.specs.declared.kinds.VType.{VType}
 use Rattle.program_model.specs.declared.program.Method.{Method}
@@ -8,7 +7,7 @@ use Rattle.program_model.specs.declared.program.Program.{Program}
 use Rattle.ledger_obligations.specs.Bodies.{constructs, reset_in}
 use Rattle.ownership_rules.specs.Signatures.{is_present}
 use Rattle.java_control.specs.Control.{Step}
-use Rattle.java_control.specs.declared.action.Action.{Action}
+use Rattle.control_actions.specs.declared.action.Action.{Action}
 use Rattle.ownership_rules.specs.Callees as callees
 use Rattle.ownership_rules.specs.Facts.{PlaceSet}
 use Rattle.ownership_rules.specs.SmallActions.{IsSmallAction}
@@ -34,7 +33,6 @@ use Rattle.content_laws.specs.Chains.{HaveEnds, IsLast}
 use Rattle.content_laws.specs.Agreement.{is_answering}
 use Rattle.content_laws.specs.Anew.{holds_target, is_target}
 use Rattle.content_laws.specs.Renewing.{is_renewed}
-use Rattle.content_laws.specs.PlaceFacts.{is_frame_from}
 use Rattle.content_laws.proofs.CallNames.{operand_has_position, operand_of_fact}
 use Rattle.content_laws.proofs.Carried.{HoldIt}
 use Rattle.content_laws.proofs.Readings.{operand_renews}
@@ -69,13 +67,6 @@ none_present (Some k) is = absurd (true≢false is)
 pub plain_interest : (m : Option Method) → calls.interest_in (without_reset m) ≡ calls.interest_in m
 plain_interest None = refl
 plain_interest (Some m) = refl
-
-pub from_first : (k : ℕ) → is_frame_from 0 (owners.Frame k) ≡ true
-from_first k = go (nat_lt k 0) refl
-  where
-    go : (b : Bool) → nat_lt k 0 ≡ b → not b ≡ true
-    go true less = absurd (grind (arith, nat_tests, less))
-    go false less = refl
 
 pub answers_library : (w : Owner) → is_library_owner w ≡ true → is_answering w ≡ true
 answers_library owners.Library is = refl

@@ -16,9 +16,9 @@ use Rattle.program_model.specs.declared.program.Promise.{Promise}
 use Rattle.program_model.specs.Lookups.{method_at}
 use Rattle.ledger_obligations.specs.Bodies.{throwing_promises_in}
 use Rattle.ledger_obligations.specs.MustCallSets.{Names, is_heavy_class}
-use Rattle.java_control.specs.declared.action.Action.{Action}
-use Rattle.java_control.specs.declared.action.Edge.{Edge}
-use Rattle.java_control.specs.declared.action.Edge.TheVariants as edges
+use Rattle.control_actions.specs.declared.action.Action.{Action}
+use Rattle.control_actions.specs.declared.action.Edge.{Edge}
+use Rattle.control_actions.specs.declared.action.Edge.TheVariants as edges
 use Rattle.ownership_rules.specs.Callees.{callee, holds_operand, may_be_null_target}
 use Rattle.ownership_rules.specs.Signatures.{is_at, promised_names, when}
 use Rattle.ownership_rules.specs.Facts.{PlaceSet}
@@ -41,8 +41,8 @@ use Rattle.content_laws.specs.Heaps.{HasEarlierLinks}
 use Rattle.content_laws.specs.Leading.{Leads}
 use Rattle.content_laws.proofs.RootLaws.{has_object}
 use Rattle.java_control.specs.Control.{Step}
-use Rattle.java_control.specs.declared.action.Action.TheVariants as actions
-use Rattle.java_control.specs.declared.action.Completion.{Completion}
+use Rattle.control_actions.specs.declared.action.Action.TheVariants as actions
+use Rattle.control_actions.specs.declared.action.Completion.{Completion}
 use Rattle.ownership_rules.specs.MovesAtCalls.{moved_at_call}
 use Rattle.ownership_rules.specs.declared.moved.Moved.TheVariants as moves
 use Rattle.ledger_state.specs.declared.entry.Owner.TheVariants as owners

@@ -1,5 +1,5 @@
 -- What a call gives as an alias of an object is an object: the library makes it or gives the argument, a `new` gives what it made, and a method of the program returns its aliased argument, which it knows.
-use Rattle.std.proofs.Common.{◌≡◌, inl, inr, ℕ, zero, suc, ◌<◌, true, false, not, true≢false, Option, Some, None, List, slice_get, refl, sym, ap, ◌∙◌, subst, lt-ltb, eq-eqb}
+use Rattle.std.proofs.Common.{◌≡◌, inl, inr, ℕ, zero, suc, ◌<◌, true, false, not, true≢false, Option, Some, None, List, slice_get, refl, sym, ap, ◌∙◌, subst, eq-eqb}
 use Rattle.std.proofs.lemmas.Bool.{and_from}
 use Rattle.program_model.specs.declared.kinds.BodyId.{BodyId}
 use Rattle.program_model.specs.declared.kinds.ClassId.{ClassId}
@@ -13,16 +13,15 @@ use Rattle.program_model.specs.Validity.{IfPosition}
 use Rattle.ledger_obligations.specs.Bodies.{alias_in, constructs, is_constructor_kind, is_instance_kind}
 use Rattle.java_control.specs.Calls.{called_method, operand_at}
 use Rattle.java_control.specs.Control.{Step}
-use Rattle.java_control.specs.declared.action.Action.{Action}
-use Rattle.java_control.specs.declared.action.Action.TheVariants as actions
-use Rattle.java_control.specs.declared.action.Completion.{Completion}
-use Rattle.java_control.specs.declared.action.Completion.TheVariants as completions
-use Rattle.java_control.specs.declared.action.Edge.{Edge}
-use Rattle.java_control.specs.declared.action.Edge.TheVariants as edges
-use Rattle.java_control.specs.declared.action.TargetForm.TheVariants as forms
-use Rattle.java_control.specs.declared.place.Place.TheVariants as places
+use Rattle.control_actions.specs.declared.action.Action.{Action}
+use Rattle.control_actions.specs.declared.action.Action.TheVariants as actions
+use Rattle.control_actions.specs.declared.action.Completion.{Completion}
+use Rattle.control_actions.specs.declared.action.Completion.TheVariants as completions
+use Rattle.control_actions.specs.declared.action.Edge.TheVariants as edges
+use Rattle.control_actions.specs.declared.action.TargetForm.TheVariants as forms
+use Rattle.control_actions.specs.declared.place.Place.TheVariants as places
 use Rattle.ownership_rules.specs.Callees.{callee_in, holds_operand}
-use Rattle.ownership_rules.specs.Facts.{PlaceSet, has, has_temp}
+use Rattle.ownership_rules.specs.Facts.{PlaceSet}
 use Rattle.ownership_rules.specs.Signatures.{is_position}
 use Rattle.ownership_rules.specs.SmallActions.{IsSmallAction, IsSmallTemp}
 use Rattle.ownership_rules.proofs.SmallOperands.{operand_has_room}
@@ -33,11 +32,11 @@ use Rattle.ledger_state.specs.Locals.{temp_in}
 use Rattle.ledger_state.specs.declared.array.ArrayObject.{ArrayObject}
 use Rattle.ledger_state.specs.declared.locals.Locals.{Locals}
 use Rattle.ledger_state.specs.declared.value.Value.{Value}
-use Rattle.ledger_steps.specs.LedgerCallsCalls.{alias_position, depth_at, operand_of, position_of}
+use Rattle.ledger_steps.specs.LedgerCallsCalls.{alias_position, operand_of, position_of}
 use Rattle.ledger_steps.specs.Conducts.{argument_of, conduct_value, made_by_new, positions, value_at}
 use Rattle.ledger_steps.specs.Ends.{answered, answered_normally, exception_class, result_value, thrown_in}
 use Rattle.content_laws.specs.Accept.{Accept}
-use Rattle.content_laws.specs.Agreement.{IsMadeBy, Stands, WaitsFor}
+use Rattle.content_laws.specs.Agreement.{IsMadeByNew, Stands, WaitsFor}
 use Rattle.content_laws.specs.Aliases.{gives_alias}
 use Rattle.content_laws.specs.Arguments.{HasArguments}
 use Rattle.content_laws.specs.Choosing.{body_id, frame_steps}
@@ -50,18 +49,18 @@ use Rattle.content_laws.specs.Paths.{Reach, move_of, relation_of}
 use Rattle.content_laws.specs.PlainForms.{HasPlainForms, IsPlainAction, MayRun, RunsFor}
 use Rattle.content_laws.specs.Positions.{is_lasting}
 use Rattle.content_laws.specs.Running.{HasPlainRuns, is_on_object}
-use Rattle.content_laws.specs.Steps.{is_super}
 use Rattle.content_laws.specs.Throws.{EndsByException}
 use Rattle.content_laws.proofs.AliasConducts.{GivesAlias, gives_object, library_gives}
 use Rattle.content_laws.proofs.AliasFacts.{aliased_is_spoken}
-use Rattle.content_laws.proofs.AliasRoots.{GivesOperand, gives_operand, same_alias}
+use Rattle.content_laws.proofs.AliasRoots.{GivesOperand, gives_operand, plain_super, same_alias}
 use Rattle.content_laws.proofs.Bodies.{running_method}
+use Rattle.content_laws.proofs.CallNames.{depth_is, holds_at}
 use Rattle.content_laws.proofs.CallWays.{one_action}
 use Rattle.content_laws.proofs.Following.{same_body}
 use Rattle.content_laws.proofs.LastingFacts.{aliased_is_result}
 use Rattle.content_laws.proofs.LibraryRuns.{one_alias}
 use Rattle.content_laws.proofs.NamedReached.{names_what_is_there}
-use Rattle.content_laws.proofs.Ready.{named_gives_none, plain_call, plain_step, row_gives_none, step_here, step_there}
+use Rattle.content_laws.proofs.Ready.{plain_call, plain_step, row_gives_none, step_here, step_there}
 use Rattle.content_laws.proofs.Unmet.{call_may}
 use Rattle.soundness_laws.specs.Knowing.{IsKnown, IsObject, KnowsArguments}
 use Rattle.soundness_laws.specs.Knowing as knowing
@@ -69,17 +68,10 @@ use Rattle.soundness_laws.proofs.KnowingFrames.{HoldObjects}
 
 -- ---- operands
 
-temp_there : (held : PlaceSet) (d : Option ℕ) → has_temp held d ≡ true → (n : ℕ) × (d ≡ Some n) × (has held (places.Temp n) ≡ true)
-temp_there held None is = absurd (true≢false (sym is))
-temp_there held (Some n) is = (n, refl, is)
-
-depth_is : (a : Action) (k n : ℕ) → k < 4294967296 → operand_at a k ≡ Some n → depth_at a k ≡ Some n
-depth_is a k n below is = rw (lt-ltb k 4294967296 below) is
-
 -- an operand that is among the places is an object
 operand_object : (p : Program) (l : Locals) (a : Action) (k : ℕ) (held : PlaceSet) → IsSmallAction p a → k < 4294967296 → HoldObjects l held → holds_operand a held k ≡ true → IsObject (operand_of l a k)
 operand_object p l a k held small below hold is =
-    let d = temp_there held (operand_at a k) is in
+    let d = holds_at held (operand_at a k) is in
     let room : d.0 < 64 = subst IsSmallTemp d.1 (operand_has_room p a k small) in
     let object = hold (places.Temp d.0) room d.2 in
     (object.0, ap (temp_in l) (depth_is a k d.0 below d.1) ∙ object.1)
@@ -100,11 +92,6 @@ argument_object l (actions.New c d n) k zero object = (k, refl)
 argument_object l (actions.New c d n) k (suc j) object = object
 argument_object l a k zero object = object
 argument_object l a k (suc j) object = object
-
-super_gives_none : (p : Program) (a : Action) (e : Edge) (held : PlaceSet) → IsPlainAction p a → gives_alias p a e held ≡ true → is_super a ≡ false
-super_gives_none p actions.Skip e held plain gives = refl
-super_gives_none p (actions.Super m d n) e held plain gives = absurd (true≢false (sym gives ∙ named_gives_none p (actions.Super m d n) e held plain.2))
-super_gives_none p a e held plain gives = refl
 
 module _ (p : Program) (ac : Accept p) (h : HeapContents) (arrays : List ArrayObject) (l : Locals) (steps : List Step) (named m : MethodId) (d : Conduct) (s : Step) (next : IsLibraryMove p h arrays l steps named m d s)
     (small : IsSmallAction p s.action) (plain : IsPlainAction p s.action) (count k : ℕ) (held : PlaceSet) (hold : HoldObjects l held) (gives : gives_alias p s.action s.edge held ≡ true) where
@@ -137,7 +124,7 @@ module _ (p : Program) (ac : Accept p) (h : HeapContents) (arrays : List ArrayOb
     by_method (Some x) at =
         let its : x.sig.alias ≡ Some aliased_there.0.position = ap alias_position (sym at) ∙ alias in
         by_conduct x d refl (subst (GivesAlias p x) (sym next.by.1)
-        (library_gives p x aliased_there.0.position its (gives_object p ac.well_formed m x at aliased_there.0.position its) h arrays m at next.by.0 (position_of None l s.action) s.action (super_gives_none p s.action s.edge held plain gives)))
+        (library_gives p x aliased_there.0.position its (gives_object p ac.well_formed m x at aliased_there.0.position its) h arrays m at next.by.0 (position_of None l s.action) s.action (plain_super p s.action s.edge held plain gives)))
 
   pub library_gives_object : IsObject (value d)
   library_gives_object = elim next.row [
@@ -245,8 +232,8 @@ module _ (p : Program) (ac : Accept p) (forms' : HasPlainForms p) (runs' : HasPl
 
   -- ---- the end
 
-  makes : IsMadeBy p h t.action fr.locals.this
-  makes = subst (λ (a : Action). IsMadeBy p h a fr.locals.this) same_call waits.makes
+  makes : IsMadeByNew p h t.action fr.locals.this
+  makes = subst (λ (a : Action). IsMadeByNew p h a fr.locals.this) same_call waits.makes
 
   normal_end : exception_class p h (thrown_in fr.locals q) ≡ None → is_throw q ≡ false
   normal_end none = go q is none
@@ -260,7 +247,7 @@ module _ (p : Program) (ac : Accept p) (forms' : HasPlainForms p) (runs' : HasPl
 
   normally : exception_class p h (thrown_in fr.locals q) ≡ None → (a : Action) → t.action ≡ a → IsObject (answered_normally fr.locals.this a v)
   normally none actions.Skip it = absurd (subst IsCallRow it back.row)
-  normally none (actions.New m d n) it = let made = subst (λ (a : Action). IsMadeBy p h a fr.locals.this) it makes in (made.0, made.1)
+  normally none (actions.New m d n) it = let made = subst (λ (a : Action). IsMadeByNew p h a fr.locals.this) it makes in (made.0, made.1)
   normally none (actions.Super m d n) it =
       absurd (let never : None ≡ Some given.0.position = sym (subst (IsPlainAction p) it form).2 ∙ ap (λ (z : MethodId). alias_in (method_at p z)) (of_named m (ap called_method it)) ∙ sym (same_alias (method_at p named)) ∙ given.0.alias in cc)
   normally none (actions.Call m d n f) it =

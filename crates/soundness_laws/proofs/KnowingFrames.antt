@@ -13,17 +13,17 @@ use Rattle.java_control.specs.Control.{Step}
 use Rattle.java_control.specs.Owned.{place_of_field}
 use Rattle.java_control.specs.PlaceNumbers.{IsSmall}
 use Rattle.java_control.specs.Sources.{source}
-use Rattle.java_control.specs.declared.action.Action.{Action}
-use Rattle.java_control.specs.declared.action.Action.TheVariants as actions
-use Rattle.java_control.specs.declared.action.Completion.{Completion}
-use Rattle.java_control.specs.declared.action.Edge.{Edge}
-use Rattle.java_control.specs.declared.action.Edge.TheVariants as edges
-use Rattle.java_control.specs.declared.fact.Fact.{Fact}
-use Rattle.java_control.specs.declared.fact.OriginKind.{OriginKind}
-use Rattle.java_control.specs.declared.fact.OriginKind.TheVariants as kinds
-use Rattle.java_control.specs.declared.fact.Outcome.TheVariants.{Next}
-use Rattle.java_control.specs.declared.place.Place.{Place}
-use Rattle.java_control.specs.declared.place.Place.TheVariants as places
+use Rattle.control_actions.specs.declared.action.Action.{Action}
+use Rattle.control_actions.specs.declared.action.Action.TheVariants as actions
+use Rattle.control_actions.specs.declared.action.Completion.{Completion}
+use Rattle.control_actions.specs.declared.action.Edge.{Edge}
+use Rattle.control_actions.specs.declared.action.Edge.TheVariants as edges
+use Rattle.control_actions.specs.declared.fact.Fact.{Fact}
+use Rattle.control_actions.specs.declared.fact.OriginKind.{OriginKind}
+use Rattle.control_actions.specs.declared.fact.OriginKind.TheVariants as kinds
+use Rattle.control_actions.specs.declared.fact.Outcome.TheVariants.{Next}
+use Rattle.control_actions.specs.declared.place.Place.{Place}
+use Rattle.control_actions.specs.declared.place.Place.TheVariants as places
 use Rattle.ownership_rules.specs.Facts.{PlaceSet, has, is_origin_at}
 use Rattle.ownership_rules.specs.Signatures.{is_position}
 use Rattle.ownership_rules.specs.SmallActions.{IsSmallAction}

@@ -20,8 +20,7 @@ use Rattle.ledger_obligations.specs.Bodies.{constructs, is_class_of, is_construc
 use Rattle.ledger_obligations.specs.MustCallSets.{is_empty, is_heavy_class, must_of, must_of_optional, must_of_type, no_names}
 use Rattle.ownership_rules.specs.Signatures.{field_type, is_position, type_of_field}
 use Rattle.java_control.specs.Control.{Step}
-use Rattle.java_control.specs.declared.action.Action.TheVariants as actions
-use Rattle.ownership_rules.specs.Facts.{has}
+use Rattle.control_actions.specs.declared.action.Action.TheVariants as actions
 use Rattle.content_laws.specs.Accept.{Accept}
 use Rattle.content_laws.specs.Agreement.{AllStand, Stands}
 use Rattle.content_laws.specs.Choosing.{body_id, frame_steps}

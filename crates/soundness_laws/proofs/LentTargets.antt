@@ -139,7 +139,7 @@ module _ (p : Program) (ac : Accept p) (forms : HasPlainForms p) (h k : HeapCont
       caller_in = All-head (λ (u : Frame). LocalsInRange h u.locals) caller rest in'
 
       before : Awaits p h caller n z
-      before = owner_awaits p ac forms h caller waiting.0 rest standing.0 stacked.0.index stacked.0.step stacked.0.here (row_of stacked.0.step.action stacked.0.named stacked.0.calls) waiting.3
+      before = owner_awaits p ac h caller waiting.0 rest standing.0 stacked.0.index stacked.0.step stacked.0.here (row_of stacked.0.step.action stacked.0.named stacked.0.calls) waiting.3
           (holds_lent p ac forms h links owned caller caller_in standing.0 waiting.0 rest targets.0 have unfinished (is_given p h caller) (is_reread p h caller) waiting.3 unlinked)
           have targets.0 sight.0.makes n z at heavy (inl owes) (inl done) renewed (ap (λ (u : Object). u.owner) (sym same_object) ∙ owner)
 

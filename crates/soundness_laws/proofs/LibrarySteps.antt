@@ -16,9 +16,9 @@ use Rattle.ledger_obligations.specs.Bodies.{alias_in}
 use Rattle.ledger_obligations.specs.WellFormed.{HasSmallInterests}
 use Rattle.java_control.specs.Calls.{called_method}
 use Rattle.java_control.specs.Control.{Step}
-use Rattle.java_control.specs.declared.action.Action.{Action}
-use Rattle.java_control.specs.declared.action.Action.TheVariants as actions
-use Rattle.java_control.specs.declared.action.Edge.TheVariants as edges
+use Rattle.control_actions.specs.declared.action.Action.{Action}
+use Rattle.control_actions.specs.declared.action.Action.TheVariants as actions
+use Rattle.control_actions.specs.declared.action.Edge.TheVariants as edges
 use Rattle.ownership_rules.specs.Callees.{callee, callee_in}
 use Rattle.content_laws.specs.CalledRows.{holds_receiver, interest_in, promises_at}
 use Rattle.content_laws.specs.Accept.{Accept}
@@ -64,7 +64,7 @@ use Rattle.ledger_state.specs.declared.locals.Locals.{Locals}
 use Rattle.ledger_state.specs.Locals.{temp_in}
 use Rattle.ledger_state.specs.Values.{number_of}
 use Rattle.std.proofs.Common.{nat_lt}
-use Rattle.java_control.specs.declared.action.Edge.{Edge}
+use Rattle.control_actions.specs.declared.action.Edge.{Edge}
 use Rattle.content_laws.specs.Steps.{IsTrueTest, RootsStay, is_super}
 use Rattle.content_laws.proofs.AliasRoots.{OperandsAreThere, library_alias}
 use Rattle.content_laws.proofs.LibraryRuns.{one_alias}
@@ -92,8 +92,8 @@ use Rattle.content_laws.specs.HeapAnew.{GoesOnAside, IsOlderAside, finished_root
 use Rattle.content_laws.proofs.Emptied.{emptied_root, fresh_stays}
 use Rattle.content_laws.proofs.LibraryCallLaws.{any_given_arguments_stay_given, any_library_aliases_are_older_or_made, any_library_links_stay, any_library_objects_are_older_or_made, any_library_objects_go_on, any_receiver_is_called, any_unfinished_objects_stay_unowned, aside_links, emptied_roots-root, library_calls_leak_nothing}
 use Rattle.ledger_obligations.specs.MustCallSets.{Names, must_of}
-use Rattle.java_control.specs.declared.fact.Fact.{Fact}
-use Rattle.java_control.specs.declared.place.Place.TheVariants as places
+use Rattle.control_actions.specs.declared.fact.Fact.{Fact}
+use Rattle.control_actions.specs.declared.place.Place.TheVariants as places
 use Rattle.ownership_rules.specs.Facts.{has, is_own}
 use Rattle.content_laws.specs.Anew.{is_target}
 use Rattle.content_laws.specs.Frames.{HaveTargets}
@@ -293,7 +293,7 @@ module _ (p : Program) (ac : Accept p) (forms : HasPlainForms p) (names : HasSma
         by : IsCallRow s.action → called_method s.action ≡ Some named → IsSomeones
         by row called = in_hand (target_answered p ac forms h heap agrees.ends agrees.links held holders o x y before.1 heavy done (roots_stay o x before.1) before.3 bounded fr frs agrees.standing.1 targets.1 lower agrees.stacked old waiting unready sights
             target.target target.object target.at target.within
-            (renewed_answered p ac forms h fr agrees.standing.0 old frs i s here row covered holds agrees.ends targets.0 sight.makes target.target target.object target.at target.heavy.1
+            (renewed_answered p ac h fr agrees.standing.0 old frs i s here row covered holds agrees.ends targets.0 sight.makes target.target target.object target.at target.heavy.1
             (target_owes p h target.target o target.object x target.at before.1 target.within owes) target.renews (inl target.heavy.0)))
           where
             x : Object

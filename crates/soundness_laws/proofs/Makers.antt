@@ -10,8 +10,8 @@ use Rattle.program_model.specs.Lookups.{field_at, method_at}
 use Rattle.program_model.specs.SuperTests.{is_class}
 use Rattle.ledger_obligations.specs.Bodies.{constructs, is_class_of, method_in, method_of}
 use Rattle.java_control.specs.Calls.{called_method, is_reset_of_this}
-use Rattle.java_control.specs.declared.action.Action.{Action}
-use Rattle.java_control.specs.declared.action.Action.TheVariants as actions
+use Rattle.control_actions.specs.declared.action.Action.{Action}
+use Rattle.control_actions.specs.declared.action.Action.TheVariants as actions
 use Rattle.content_laws.specs.Accept.{Accept}
 use Rattle.content_laws.specs.Paths.{move_of}
 use Rattle.ledger_state.specs.Contents.{HeapContents}
@@ -22,7 +22,7 @@ use Rattle.content_laws.specs.Places.{class_of_method}
 use Rattle.ledger_steps.specs.LedgerCallsCalls.{body_of}
 use Rattle.content_laws.specs.Configuration.{Frame}
 use Rattle.content_laws.specs.ProgramCalls.{is_new}
-use Rattle.content_laws.specs.Agreement.{AllStand, IsCalledFrom, IsMade, IsMadeBy, RunsItself, RunsOnSame, Stands, WaitsFor}
+use Rattle.content_laws.specs.Agreement.{AllStand, IsCalledFrom, IsMade, IsMadeByNew, RunsItself, RunsOnSame, Stands, WaitsFor}
 use Rattle.ledger_state.specs.Fields.{field_value}
 use Rattle.content_laws.specs.Filled.{AreFilled}
 use Rattle.content_laws.specs.PlainForms.{HasPlainForms, IsPlainCall, RunsFor, calls_constructor}
@@ -99,7 +99,7 @@ module _ (p : Program) (ac : Accept p) (forms : HasPlainForms p) where
         go (actions.New m d n) is =
             let one : m ≡ w.named = same_named m w.named (ap called_method (sym is) ∙ w.calls) in
             let itself : fr.method ≡ w.named = subst (λ (a : Action). RunsItself a w.named fr.method) is w.itself in
-            (itself, inl (subst (λ (k : MethodId). IsMade p h k fr.locals.this) (one ∙ sym itself) (subst (λ (a : Action). IsMadeBy p h a fr.locals.this) is w.makes)))
+            (itself, inl (subst (λ (k : MethodId). IsMade p h k fr.locals.this) (one ∙ sym itself) (subst (λ (a : Action). IsMadeByNew p h a fr.locals.this) is w.makes)))
         go (actions.Super m d n) is =
             let one : m ≡ w.named = same_named m w.named (ap called_method (sym is) ∙ w.calls) in (
               subst (λ (a : Action). RunsItself a w.named fr.method) is w.itself,

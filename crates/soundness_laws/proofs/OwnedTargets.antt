@@ -5,7 +5,7 @@ use Rattle.program_model.specs.Lookups.{method_at}
 use Rattle.ledger_obligations.specs.MustCallSets.{is_heavy_class}
 use Rattle.java_control.specs.Control.{Step}
 use Rattle.java_control.specs.PlaceNumbers.{IsSmall}
-use Rattle.java_control.specs.declared.place.Place.TheVariants as places
+use Rattle.control_actions.specs.declared.place.Place.TheVariants as places
 use Rattle.ownership_rules.specs.Facts.{PlaceSet, has, is_own}
 use Rattle.ledger_state.specs.Contents.{HeapContents}
 use Rattle.ledger_state.specs.Heaps.{object_at, root_of}
@@ -36,7 +36,7 @@ module _ (p : Program) (ac : Accept p) (forms : HasPlainForms p) (h : HeapConten
   IsInOwned = (c : Covers p h false false old frs fr o x) × IsOwned p h false false old frs fr o x c × (is_own c.fact.mode ≡ true) × (is_target p s.action c.fact.places ≡ true) × ((t : ℕ) × (has c.fact.places (places.Temp t) ≡ true))
 
   temp : (t : ℕ) × IsSmall (places.Temp t) × (root_of h (place_value p h fr.method fr.locals (places.Temp t)) ≡ Some o) × ((held : PlaceSet) → has held (places.Temp t) ≡ true → is_target p s.action held ≡ true)
-  temp = target_temp p ac forms h fr old frs st i s here row o renewed
+  temp = target_temp p ac h fr old frs st i s here row o renewed
 
   not_lent : IsLentFrom p h frs o x.owner → ⊥
   not_lent lent = true≢false (sym (own_frame (length frs + 1) x.owner mine) ∙ lent_not_from p h frs o x.owner lent)
@@ -61,7 +61,7 @@ module _ (p : Program) (ac : Accept p) (forms : HasPlainForms p) (h : HeapConten
         | inl own ↦ (c, key, own, temp.3 c.fact.places in', (temp.0, in'))
         | inr held ↦ absurd (not_other (holds o x at heavy owes (inl done) (step_renews p h fr i s o here renewed) false false c held.0 held.1 (claims_owned p (method_at p fr.method) c.origin c.fact key.owning).0))
       ]
-      by (unowned u) = absurd (elim (target_mode p ac forms h fr old frs st i s here row false false o x u.covers (temp.3 u.covers.fact.places u.here)) [
+      by (unowned u) = absurd (elim (target_mode p ac h fr old frs st i s here row false false o x u.covers (temp.3 u.covers.fact.places u.here)) [
         | inl claimed ↦ true≢false (sym claimed ∙ u.unowned)
         | inr lends ↦ not_lent (u.covers.lends lends done).1
       ])

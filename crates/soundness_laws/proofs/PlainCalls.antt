@@ -15,9 +15,9 @@ use Rattle.ledger_obligations.specs.Bodies.{constructs, is_constructor_kind}
 use Rattle.java_control.specs.Calls.{called_method}
 use Rattle.java_control.specs.Owned.{is_owning}
 use Rattle.java_control.specs.Remaining.{Todo}
-use Rattle.java_control.specs.declared.action.Action.{Action}
-use Rattle.java_control.specs.declared.action.Action.TheVariants as actions
-use Rattle.java_control.specs.declared.action.TargetForm.TheVariants as forms
+use Rattle.control_actions.specs.declared.action.Action.{Action}
+use Rattle.control_actions.specs.declared.action.Action.TheVariants as actions
+use Rattle.control_actions.specs.declared.action.TargetForm.TheVariants as forms
 use Rattle.content_laws.specs.Paths.{Comes, Move, relation_of}
 use Rattle.content_laws.specs.Accept.{Accept}
 use Rattle.content_laws.specs.Constructors.{CallsSuperClass, IsOfSuperClass, NamesInstance, StandsInBody, StoresAssignedField}

@@ -54,9 +54,9 @@ use Rattle.content_laws.proofs.CoveringLaws.{being_made_at_start, being_made_ste
 use Rattle.content_laws.proofs.Chains.{object_there}
 use Rattle.content_laws.proofs.NameCounts.{accepted_names}
 use Rattle.java_control.specs.Control.{Step}
-use Rattle.java_control.specs.declared.action.Action.TheVariants as actions
-use Rattle.java_control.specs.declared.action.Completion.{Completion}
-use Rattle.java_control.specs.declared.action.Completion.TheVariants as completions
+use Rattle.control_actions.specs.declared.action.Action.TheVariants as actions
+use Rattle.control_actions.specs.declared.action.Completion.{Completion}
+use Rattle.control_actions.specs.declared.action.Completion.TheVariants as completions
 use Rattle.content_laws.specs.Ends.{is_throw}
 use Rattle.content_laws.specs.Choosing.{frame_steps}
 use Rattle.ledger_steps.specs.Ends.{exception_class, thrown_in}

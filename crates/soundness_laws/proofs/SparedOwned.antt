@@ -47,7 +47,7 @@ module _ (p : Program) (ac : Accept p) (forms : HasPlainForms p) (h : HeapConten
       -- what the caller creates anew on the way of the object is in its hands
       hands : (u : ℕ) (y : Object) → object_at h u ≡ Some y → IsWholeObject p y → IsComparable h u o → is_renewed p h caller u ≡ true → HasInHand p h (IsLentFrom p h rest) (length rest + 1) caller u y.owner
       hands u y there heavy' comes renewed =
-          elim (owned_or_lent p ac forms h caller older rest below i t here row waiting holds ends targets making u y there heavy'.1
+          elim (owned_or_lent p ac h caller older rest below i t here row waiting holds ends targets making u y there heavy'.1
           (comparable_bears p h ends unlinked o u x y at there heavy.1 comes (inl (not_the_librarys_owes x (ap is_library_owner mine)))) heavy'.0 renewed) [
             | inl own ↦ inl (own.key.owner own.kept own.own)
             | inr other ↦ inr other

@@ -12,10 +12,10 @@ use Rattle.program_model.specs.Lookups.{method_at}
 use Rattle.ledger_obligations.specs.WellFormed.{HasSmallInterests}
 use Rattle.java_control.specs.Calls.{called_method}
 use Rattle.java_control.specs.Control.{Step}
-use Rattle.java_control.specs.declared.action.Action.{Action}
-use Rattle.java_control.specs.declared.action.Action.TheVariants as actions
-use Rattle.java_control.specs.declared.action.Completion.{Completion}
-use Rattle.java_control.specs.declared.action.Edge.TheVariants as edges
+use Rattle.control_actions.specs.declared.action.Action.{Action}
+use Rattle.control_actions.specs.declared.action.Action.TheVariants as actions
+use Rattle.control_actions.specs.declared.action.Completion.{Completion}
+use Rattle.control_actions.specs.declared.action.Edge.TheVariants as edges
 use Rattle.ownership_rules.specs.Room.{variables_in}
 use Rattle.content_laws.specs.Accept.{Accept}
 use Rattle.content_laws.specs.Paths.{move_of, on}
@@ -43,7 +43,7 @@ use Rattle.content_laws.specs.LedgerRunsOutcomes.{Outcome, went, ended, stray}
 use Rattle.content_laws.specs.LedgerRunsSteps.{began, end, library_went, main_ended, moved, moved_by, returned, returned_by, step, top_move, within}
 use Rattle.content_laws.specs.Frames.{HaveTargets, KeepsTargets}
 use Rattle.content_laws.specs.LibraryClasses.{GivesLibraryClasses, ThrowsMadeClasses}
-use Rattle.content_laws.specs.Agreement.{Agree, Agrees, IsMadeBy, RunsItself, Stands, WaitsFor, IsMadeAfter}
+use Rattle.content_laws.specs.Agreement.{Agree, Agrees, IsMadeByNew, RunsItself, Stands, WaitsFor, IsMadeAfter}
 use Rattle.content_laws.specs.PlainForms.{HasPlainForms, IsPlainCall}
 use Rattle.content_laws.specs.Fitting.{FitsMethod}
 use Rattle.content_laws.proofs.CallWays.{one_action}
@@ -129,7 +129,7 @@ module _ (p : Program) (ac : Accept p) (forms : HasPlainForms p) (names : HasSma
             fit = fit;
             normal = normal;
             thrown = thrown;
-            makes = subst (λ (a : Action). IsMadeBy p h a fr.locals.this) (sym same) w.makes;
+            makes = subst (λ (a : Action). IsMadeByNew p h a fr.locals.this) (sym same) w.makes;
             later = subst (λ (a : Action). IsMadeAfter p caller.locals a fr.locals.this) (sym same) w.after;
           }
 

@@ -14,9 +14,9 @@ use Rattle.program_model.specs.Lookups.{field_at, method_at}
 use Rattle.ledger_obligations.specs.MustCallSets.{Names, is_heavy_class, must_of, must_of_optional, must_of_type}
 use Rattle.ownership_rules.specs.Signatures as signatures
 use Rattle.java_control.specs.Control.{Step}
-use Rattle.java_control.specs.declared.action.Action.{Action}
-use Rattle.java_control.specs.declared.action.Action.TheVariants as actions
-use Rattle.java_control.specs.declared.place.Place.TheVariants as places
+use Rattle.control_actions.specs.declared.action.Action.{Action}
+use Rattle.control_actions.specs.declared.action.Action.TheVariants as actions
+use Rattle.control_actions.specs.declared.place.Place.TheVariants as places
 use Rattle.ownership_rules.specs.Facts.{has}
 use Rattle.content_laws.specs.Accept.{Accept}
 use Rattle.ledger_state.specs.Contents.{HeapContents}

@@ -15,10 +15,10 @@ use Rattle.ledger_obligations.specs.MustCallSets.{is_empty, is_heavy_class, must
 use Rattle.ownership_rules.specs.Signatures.{is_owning_at, is_present, owning_in}
 use Rattle.java_control.specs.Control.{Step}
 use Rattle.java_control.specs.Owned.{field_number, place_of_field}
-use Rattle.java_control.specs.declared.action.Action.{Action}
-use Rattle.java_control.specs.declared.action.Action.TheVariants as actions
-use Rattle.java_control.specs.declared.fact.Fact.{Fact}
-use Rattle.java_control.specs.declared.place.Place.TheVariants as places
+use Rattle.control_actions.specs.declared.action.Action.{Action}
+use Rattle.control_actions.specs.declared.action.Action.TheVariants as actions
+use Rattle.control_actions.specs.declared.fact.Fact.{Fact}
+use Rattle.control_actions.specs.declared.place.Place.TheVariants as places
 use Rattle.ownership_rules.specs.Facts.{PlaceSet, has, is_origin_at, is_own}
 use Rattle.ownership_rules.specs.SmallActions.{IsSmallAction}
 use Rattle.content_laws.specs.PlaceRows.{copied}

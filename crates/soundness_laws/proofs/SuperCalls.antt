@@ -6,8 +6,8 @@ use Rattle.program_model.specs.declared.tree.Body.{Body}
 use Rattle.program_model.specs.Lookups.{body_at}
 use Rattle.program_model.specs.Validity.{IsTypedProgram}
 use Rattle.java_control.specs.Remaining.{Todo}
-use Rattle.java_control.specs.declared.action.Action.{Action}
-use Rattle.java_control.specs.declared.action.Action.TheVariants as actions
+use Rattle.control_actions.specs.declared.action.Action.{Action}
+use Rattle.control_actions.specs.declared.action.Action.TheVariants as actions
 use Rattle.content_laws.specs.Paths.{Move, relation_of}
 use Rattle.content_laws.specs.StepStarts.{is_super}
 use Rattle.content_laws.specs.SuperArguments.{SuperCallsPassNoThis}

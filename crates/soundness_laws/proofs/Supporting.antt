@@ -17,9 +17,9 @@ use Rattle.ownership_rules.specs.Signatures.{is_position, is_present, type_of_fi
 use Rattle.ownership_rules.specs.SmallActions.{IsSmallAction}
 use Rattle.java_control.specs.Control.{Step}
 use Rattle.java_control.specs.Owned.{is_owning_field}
-use Rattle.java_control.specs.declared.action.Action.TheVariants as actions
-use Rattle.java_control.specs.declared.action.Completion.{Completion}
-use Rattle.java_control.specs.declared.action.Completion.TheVariants as completions
+use Rattle.control_actions.specs.declared.action.Action.TheVariants as actions
+use Rattle.control_actions.specs.declared.action.Completion.{Completion}
+use Rattle.control_actions.specs.declared.action.Completion.TheVariants as completions
 use Rattle.content_laws.specs.Ends.{is_throw}
 use Rattle.content_laws.specs.Paths.{move_of}
 use Rattle.content_laws.specs.Accept.{Accept}
@@ -70,9 +70,9 @@ use Rattle.content_laws.specs.Stores.{IsDisplaced, IsMovedIn}
 use Rattle.soundness_laws.proofs.StoredFacts.{owned_not_stored}
 use Rattle.content_laws.proofs.Finished.{alias_makes_none, made_by_none}
 use Rattle.content_laws.proofs.FilledStores.{alias_form}
-use Rattle.java_control.specs.declared.fact.Mode.{Mode}
-use Rattle.java_control.specs.declared.fact.Mode.TheVariants as modes
-use Rattle.java_control.specs.declared.place.Place.TheVariants as places
+use Rattle.control_actions.specs.declared.fact.Mode.{Mode}
+use Rattle.control_actions.specs.declared.fact.Mode.TheVariants as modes
+use Rattle.control_actions.specs.declared.place.Place.TheVariants as places
 use Rattle.ownership_rules.specs.Facts.{has, is_own}
 use Rattle.soundness_laws.specs.Supports.{IsLentHolder, StoresIntoLent, StoresWell, Supports}
 use Rattle.content_laws.specs.Filled.{AreFilled}

@@ -9,8 +9,8 @@ use Rattle.ledger_obligations.specs.Bodies.{constructs}
 use Rattle.ledger_obligations.specs.MustCallSets.{is_heavy_class, must_of}
 use Rattle.java_control.specs.Control.{Step}
 use Rattle.java_control.specs.Owned.{is_owning}
-use Rattle.java_control.specs.declared.action.Action.TheVariants as actions
-use Rattle.java_control.specs.declared.action.Completion.{Completion}
+use Rattle.control_actions.specs.declared.action.Action.TheVariants as actions
+use Rattle.control_actions.specs.declared.action.Completion.{Completion}
 use Rattle.ledger_state.specs.Contents.{HeapContents}
 use Rattle.ledger_state.specs.Heaps.{object_at}
 use Rattle.ledger_state.specs.Locals.{temp_value}
@@ -24,7 +24,7 @@ use Rattle.content_laws.specs.FieldContents.{TopRunsAlone}
 use Rattle.content_laws.specs.Choosing.{frame_steps}
 use Rattle.ledger_steps.specs.Ends.{exception_class, thrown_in}
 use Rattle.ledger_steps.specs.InnerSteps.{is_bound}
-use Rattle.java_control.specs.declared.place.Place.TheVariants as places
+use Rattle.control_actions.specs.declared.place.Place.TheVariants as places
 use Rattle.ownership_rules.specs.Facts.{has}
 use Rattle.content_laws.specs.Agreement.{Tracks}
 use Rattle.content_laws.specs.Renewing.{IsLentFrom}

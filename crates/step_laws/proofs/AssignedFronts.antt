@@ -45,14 +45,14 @@ use Rattle.java_control.specs.Owned.{has_place, is_this, place_of_field}
 use Rattle.java_control.specs.Remaining.{Todos, Do, Ev, Act, Leave, For}
 use Rattle.java_control.specs.Scopes.{drops_variable}
 use Rattle.java_control.specs.Statements.{clauses_front, closes, declaration_front, declarator_front, declarator_with, finally_front, for_turn, head_front, initial_front, list_of_branch, loop_turn, opens, resources_front, return_front, statement_front, super_front, try_front}
-use Rattle.java_control.specs.declared.action.Action.TheVariants as actions
-use Rattle.java_control.specs.declared.action.Operator.{Operator}
-use Rattle.java_control.specs.declared.action.Operator.TheVariants as operators
-use Rattle.java_control.specs.declared.action.Scope.TheVariants as scopes
-use Rattle.java_control.specs.declared.action.TargetForm.TheVariants as forms
-use Rattle.java_control.specs.declared.place.Place.TheVariants as places
-use Rattle.java_control.specs.declared.item.Condition.{Condition}
-use Rattle.java_control.specs.declared.item.Condition.TheVariants as conditions
+use Rattle.control_actions.specs.declared.action.Action.TheVariants as actions
+use Rattle.control_actions.specs.declared.action.Operator.{Operator}
+use Rattle.control_actions.specs.declared.action.Operator.TheVariants as operators
+use Rattle.control_actions.specs.declared.action.Scope.TheVariants as scopes
+use Rattle.control_actions.specs.declared.action.TargetForm.TheVariants as forms
+use Rattle.control_actions.specs.declared.place.Place.TheVariants as places
+use Rattle.control_actions.specs.declared.item.Condition.{Condition}
+use Rattle.control_actions.specs.declared.item.Condition.TheVariants as conditions
 use Rattle.step_laws.proofs.Declared.{AreOtherParts, clause_parts_in, final_parts, parts_first, resource_parts}
 use Rattle.step_laws.proofs.AssignedItems.{AllGood, AreGood, all_reversed, good_both, good_todos}
 use Rattle.step_laws.proofs.Unassigned.{IsOther}

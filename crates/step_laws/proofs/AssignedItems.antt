@@ -4,7 +4,7 @@ use Rattle.std.proofs.lemmas.List.{get_or-reverse, length-reverse}
 use Rattle.program_model.specs.declared.tree.Body.{Body}
 use Rattle.java_control.specs.Remaining.{Todo, Todos, nil, cons, todos, Do, Ev, Act, Cond, NullFork, BoolFork, LoopEnd, For, Leave, Catch, Fin, Close, Finish, Supp, Out, Ended}
 use Rattle.java_control.specs.Scopes.{drops_variable}
-use Rattle.java_control.specs.declared.action.Action.{Action}
+use Rattle.control_actions.specs.declared.action.Action.{Action}
 use Rattle.step_laws.specs.Setting.{sets_this, sets_variable}
 
 -- the step sets `this` or the variable

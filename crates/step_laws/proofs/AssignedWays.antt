@@ -19,11 +19,11 @@ use Rattle.java_control.specs.Control.{expression_ways, for_ways, loop_ways, sta
 use Rattle.java_control.specs.Exceptions.{action_ways, caught, clauses_in, enters, exceptions_of, goes_on, may_take, takes_wholly, throws}
 use Rattle.java_control.specs.Remaining.{Todo, todos, Do, Ev, Act, Cond, NullFork, BoolFork, LoopEnd, For, Leave, Catch, Fin, Close, Finish, Supp, Out, Ended, Way}
 use Rattle.java_control.specs.Statements.{close_front, first_items, first_items_at, listed_front, statement_front}
-use Rattle.java_control.specs.declared.action.Action.{Action}
-use Rattle.java_control.specs.declared.action.Action.TheVariants as actions
-use Rattle.java_control.specs.declared.action.Completion.{Completion}
-use Rattle.java_control.specs.declared.action.Completion.TheVariants as completions
-use Rattle.java_control.specs.declared.item.Closing.{Closing}
+use Rattle.control_actions.specs.declared.action.Action.{Action}
+use Rattle.control_actions.specs.declared.action.Action.TheVariants as actions
+use Rattle.control_actions.specs.declared.action.Completion.{Completion}
+use Rattle.control_actions.specs.declared.action.Completion.TheVariants as completions
+use Rattle.control_actions.specs.declared.item.Closing.{Closing}
 use Rattle.step_laws.proofs.Declared.{AreOtherParts}
 use Rattle.step_laws.proofs.AssignedFronts.{good_condition, good_expression, good_for_turn, good_loop_turn, good_statement, good_super}
 use Rattle.step_laws.proofs.AssignedItems.{AllGood, good_both, good_todos, touches}

@@ -16,10 +16,10 @@ use Rattle.java_control.specs.Completions.{at_catch, at_loop, at_supp, ends, out
 use Rattle.java_control.specs.Control.{Step, control_place, expression_ways, for_ways, loop_ways, next_of, statement_ways, step_at, steps_in, ways}
 use Rattle.java_control.specs.Exceptions.{action_ways, caught, clauses_in, enters, exceptions_of, may_take, takes_wholly, throws}
 use Rattle.java_control.specs.Remaining.{Todo, Do, Ev, Act, NullFork, BoolFork, LoopEnd, For, Catch, Supp, Out, Ended, Way}
-use Rattle.java_control.specs.declared.action.Action.{Action}
-use Rattle.java_control.specs.declared.action.Action.TheVariants as actions
-use Rattle.java_control.specs.declared.action.Completion.{Completion}
-use Rattle.java_control.specs.declared.action.Completion.TheVariants as completions
+use Rattle.control_actions.specs.declared.action.Action.{Action}
+use Rattle.control_actions.specs.declared.action.Action.TheVariants as actions
+use Rattle.control_actions.specs.declared.action.Completion.{Completion}
+use Rattle.control_actions.specs.declared.action.Completion.TheVariants as completions
 use Rattle.step_laws.specs.Calling.{may_call}
 
 abbrev pub AllTake : Action → List Way → Type 0
@@ -50,9 +50,6 @@ is_quiet [] i w all at = absurd (no_way i w at)
     no_way (suc i) w is = let never : None ≡ Some w = is in cc
 is_quiet (v ∷ ws) zero w all at = let same : v ≡ w = (let both : Some v ≡ Some w = at in cc) in ap (λ (x : Way). may_call x.action) (sym same) ∙ all.0
 is_quiet (v ∷ ws) (suc i) w all at = is_quiet ws i w all.1 at
-
-one_way : (w : Way) → IsOne (w ∷ [])
-one_way w = inr (w.action, (refl, tt))
 
 no_ways : IsOne []
 no_ways = inl tt

@@ -35,13 +35,13 @@ use Rattle.java_control.specs.Expressions.{assignment_front, binary_front, call_
 use Rattle.java_control.specs.NullTests.{compared_with_null}
 use Rattle.java_control.specs.Owned.{declares_field, field_number, is_owning, is_this, place_of_field}
 use Rattle.java_control.specs.Remaining.{Todo, Ev, Act}
-use Rattle.java_control.specs.declared.action.Action.TheVariants as actions
-use Rattle.java_control.specs.declared.action.Operator.{Operator}
-use Rattle.java_control.specs.declared.action.Operator.TheVariants as operators
-use Rattle.java_control.specs.declared.action.Scope.TheVariants as scopes
-use Rattle.java_control.specs.declared.action.TargetForm.{TargetForm}
-use Rattle.java_control.specs.declared.action.TargetForm.TheVariants as forms
-use Rattle.java_control.specs.declared.place.Place.TheVariants as places
+use Rattle.control_actions.specs.declared.action.Action.TheVariants as actions
+use Rattle.control_actions.specs.declared.action.Operator.{Operator}
+use Rattle.control_actions.specs.declared.action.Operator.TheVariants as operators
+use Rattle.control_actions.specs.declared.action.Scope.TheVariants as scopes
+use Rattle.control_actions.specs.declared.action.TargetForm.{TargetForm}
+use Rattle.control_actions.specs.declared.action.TargetForm.TheVariants as forms
+use Rattle.control_actions.specs.declared.place.Place.TheVariants as places
 use Rattle.step_laws.specs.Operands.{below, below_and_at, field_type, first_argument, params_of, put_at, result_of}
 use Rattle.step_laws.proofs.TextOperators.{text_operands}
 use Rattle.step_laws.proofs.TypeItems.{Within}

@@ -30,12 +30,12 @@ use Rattle.rlc_base.specs.declared.place.Pos.{Pos}
 use Rattle.java_control.specs.Remaining.{Todo, Do, Ev, Act, Leave, For, expression_place}
 use Rattle.java_control.specs.Expressions.{evaluations, type_or_null}
 use Rattle.java_control.specs.Statements.{clauses_front, close_front, closes, closing_of, declaration_front, declarator_front, declarator_with, expression_statement, finally_front, for_condition, for_turn, head_front, initial_front, list_of_branch, loop_turn, opens, resources_front, return_front, statement_front, super_front, try_front, turn_front}
-use Rattle.java_control.specs.declared.action.Action.TheVariants as actions
-use Rattle.java_control.specs.declared.action.Scope.TheVariants as scopes
-use Rattle.java_control.specs.declared.item.Closing.{Closing}
-use Rattle.java_control.specs.declared.item.Condition.{Condition}
-use Rattle.java_control.specs.declared.item.Condition.TheVariants as conditions
-use Rattle.java_control.specs.declared.place.Place.TheVariants as places
+use Rattle.control_actions.specs.declared.action.Action.TheVariants as actions
+use Rattle.control_actions.specs.declared.action.Scope.TheVariants as scopes
+use Rattle.control_actions.specs.declared.item.Closing.{Closing}
+use Rattle.control_actions.specs.declared.item.Condition.{Condition}
+use Rattle.control_actions.specs.declared.item.Condition.TheVariants as conditions
+use Rattle.control_actions.specs.declared.place.Place.TheVariants as places
 use Rattle.step_laws.specs.Operands.{ClosesPlainly, below, below_and_at, params_of, put_at, result_of}
 use Rattle.step_laws.proofs.TypeItems.{Within}
 use Rattle.step_laws.specs.ClassOperands.{FindsAside, FindsClass, IsNotAboveString, IsOfClass, ItemsFit, OfClass, TakesAll, evaluated, own_type}

@@ -21,12 +21,12 @@ use Rattle.java_control.specs.Control.{Step, control_place, expression_ways, for
 use Rattle.java_control.specs.Exceptions.{action_ways, caught, clauses_in, enters, exceptions_of, goes_on, may_take, takes_wholly, throws}
 use Rattle.java_control.specs.Remaining.{Todo, Do, Ev, Act, Cond, NullFork, BoolFork, LoopEnd, For, Leave, Catch, Fin, Close, Finish, Supp, Out, Ended, Way}
 use Rattle.java_control.specs.Statements.{first_items, first_items_at, listed_front}
-use Rattle.java_control.specs.declared.action.Action.{Action}
-use Rattle.java_control.specs.declared.action.Action.TheVariants as actions
-use Rattle.java_control.specs.declared.action.Completion.{Completion}
-use Rattle.java_control.specs.declared.action.Completion.TheVariants as completions
-use Rattle.java_control.specs.declared.action.Scope.{Scope}
-use Rattle.java_control.specs.declared.action.Scope.TheVariants as scopes
+use Rattle.control_actions.specs.declared.action.Action.{Action}
+use Rattle.control_actions.specs.declared.action.Action.TheVariants as actions
+use Rattle.control_actions.specs.declared.action.Completion.{Completion}
+use Rattle.control_actions.specs.declared.action.Completion.TheVariants as completions
+use Rattle.control_actions.specs.declared.action.Scope.{Scope}
+use Rattle.control_actions.specs.declared.action.Scope.TheVariants as scopes
 use Rattle.step_laws.specs.Operands.{below, below_and_at, leaves_names, nowhere_held, rests, thrown_after, throws_past}
 use Rattle.step_laws.proofs.TypeItems.{same_within}
 use Rattle.step_laws.specs.ClassOperands.{FindsAside, FindsClass, Fits, GivesHeld, IsNotAboveString, Returns, after, evaluated, left_held}

@@ -14,8 +14,8 @@ use Rattle.program_model.specs.declared.tree.CallTarget.TheVariants as calls
 use Rattle.program_model.specs.declared.tree.StatementKind.{StatementKind}
 use Rattle.program_model.specs.Lookups.{method_at, statement_at}
 use Rattle.java_control.specs.Remaining.{Todo, Todos, nil, cons, todos, Do, Ev, Act, Cond, NullFork, BoolFork, LoopEnd, For, Leave, Catch, Fin, Close, Finish, Supp, Out, Ended}
-use Rattle.java_control.specs.declared.action.Action.{Action}
-use Rattle.java_control.specs.declared.action.Action.TheVariants as actions
+use Rattle.control_actions.specs.declared.action.Action.{Action}
+use Rattle.control_actions.specs.declared.action.Action.TheVariants as actions
 use Rattle.step_laws.specs.Constructors.{CallsSuperClass, IsCallOf, MakesConcrete, NamesInstance, StandsInBody, StoresAssignedField, StoresOwnField}
 
 -- what the action stores, makes or calls may be stored, made or called there

@@ -13,7 +13,7 @@ use Rattle.program_model.specs.declared.tree.Var.{Var}
 use Rattle.program_model.specs.Lookups.{method_at, type_of_variable, variable_at, variable_type}
 use Rattle.accepted_programs.specs.Bodies.{constructs, is_constructor_kind}
 use Rattle.java_control.specs.Remaining.{Todo, Todos, nil, cons, todos, Do, Ev, Act, Cond, NullFork, BoolFork, LoopEnd, For, Leave, Catch, Fin, Close, Finish, Supp, Out, Ended}
-use Rattle.java_control.specs.declared.action.Action.{Action}
+use Rattle.control_actions.specs.declared.action.Action.{Action}
 use Rattle.step_laws.specs.Naming.{HasTargetIn, IsOfItsKind}
 
 abbrev pub NamesWell : Program → Body → Action → Type 0

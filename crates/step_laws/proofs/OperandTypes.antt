@@ -20,10 +20,9 @@ use Rattle.program_model.specs.declared.program.Field.{Field}
 use Rattle.program_model.specs.declared.program.Method.{Method}
 use Rattle.program_model.specs.declared.program.Program.{Program}
 use Rattle.program_model.specs.declared.tree.Body.{Body}
-use Rattle.program_model.specs.declared.tree.ExpressionKind.TheVariants as expressions
 use Rattle.program_model.specs.declared.tree.OperatorAssignment.{OperatorAssignment}
 use Rattle.program_model.specs.Lookups.{field_at, method_at, type_at}
-use Rattle.program_model.specs.Typing.{AreArguments, IsArrayOf, IsAssignable, IsConstant, IsConstruction, IsElement, IsInstanceField, IsNewObject, IsNumeric, IsOperand, IsOperation, IsOperatorAssignment, IsPrimitive, IsStaticField, IsStepOperator, IsStored, IsThisType, binary_result, class_of, element_type, is_array}
+use Rattle.program_model.specs.Typing.{AreArguments, IsArrayOf, IsAssignable, IsConstant, IsElement, IsInstanceField, IsNewObject, IsNumeric, IsOperand, IsOperatorAssignment, IsPrimitive, IsStaticField, IsStepOperator, IsStored, IsThisType, binary_result, class_of, element_type, is_array}
 use Rattle.program_model.specs.Typing as typing
 use Rattle.program_model.specs.Validity.{IsOfKind, IsStaticOrNot, IsTypedProgram, is_class_type}
 use Rattle.program_model.specs.declared.tree.NewObject.{NewObject}

@@ -21,12 +21,12 @@ use Rattle.java_control.specs.Exceptions.{exceptions_of, goes_on, throws}
 use Rattle.java_control.specs.Expressions.{evaluations}
 use Rattle.java_control.specs.Remaining.{Todo, Do, Act}
 use Rattle.java_control.specs.Statements.{first_items, first_items_at, listed_front, super_front}
-use Rattle.java_control.specs.declared.action.Action.{Action}
-use Rattle.java_control.specs.declared.action.Action.TheVariants as actions
-use Rattle.java_control.specs.declared.action.Completion.{Completion}
-use Rattle.java_control.specs.declared.action.Completion.TheVariants as completions
-use Rattle.java_control.specs.declared.action.Scope.TheVariants as scopes
-use Rattle.java_control.specs.declared.place.Place.TheVariants as places
+use Rattle.control_actions.specs.declared.action.Action.{Action}
+use Rattle.control_actions.specs.declared.action.Action.TheVariants as actions
+use Rattle.control_actions.specs.declared.action.Completion.{Completion}
+use Rattle.control_actions.specs.declared.action.Completion.TheVariants as completions
+use Rattle.control_actions.specs.declared.action.Scope.TheVariants as scopes
+use Rattle.control_actions.specs.declared.place.Place.TheVariants as places
 use Rattle.step_laws.specs.Starts.{is_super}
 use Rattle.step_laws.specs.SuperArguments.{LacksThis, PassesNoThis}
 use Rattle.step_laws.proofs.StartFronts.{AreFree, good_evaluations}

@@ -15,7 +15,7 @@ use Rattle.program_model.specs.Lookups.{statement_at}
 use Rattle.program_model.specs.TextOrder.{clause_parts, declarator_parts, initial_parts, text_parts}
 use Rattle.java_control.specs.Exceptions.{clauses_in, clauses_of_kind}
 use Rattle.java_control.specs.Scopes.{declares, declares_at, declares_directly, declares_directly_at, drops_variable, head_declares, is_named}
-use Rattle.java_control.specs.declared.action.Scope.TheVariants as scopes
+use Rattle.control_actions.specs.declared.action.Scope.TheVariants as scopes
 use Rattle.step_laws.proofs.Declared.{AreOtherParts, clause_parts_in, final_parts, parts_first, parts_second, resource_parts}
 
 abbrev pub AreOtherClauses : ℕ → List CatchClause → Type 0

@@ -36,14 +36,14 @@ use Rattle.java_control.specs.NullTests.{compared_with_null, is_null}
 use Rattle.java_control.specs.Owned.{declares_field, has_place, is_owning, is_this, is_this_node, place_of_field}
 use Rattle.java_control.specs.Owned as owned
 use Rattle.java_control.specs.Remaining.{Todos, Ev, Act}
-use Rattle.java_control.specs.declared.action.Action.TheVariants as actions
-use Rattle.java_control.specs.declared.action.Operator.{Operator}
-use Rattle.java_control.specs.declared.action.Operator.TheVariants as operators
-use Rattle.java_control.specs.declared.action.Scope.TheVariants as scopes
-use Rattle.java_control.specs.declared.action.TargetForm.TheVariants as forms
-use Rattle.java_control.specs.declared.place.Place.TheVariants as places
-use Rattle.java_control.specs.declared.item.Condition.{Condition}
-use Rattle.java_control.specs.declared.item.Condition.TheVariants as conditions
+use Rattle.control_actions.specs.declared.action.Action.TheVariants as actions
+use Rattle.control_actions.specs.declared.action.Operator.{Operator}
+use Rattle.control_actions.specs.declared.action.Operator.TheVariants as operators
+use Rattle.control_actions.specs.declared.action.Scope.TheVariants as scopes
+use Rattle.control_actions.specs.declared.action.TargetForm.TheVariants as forms
+use Rattle.control_actions.specs.declared.place.Place.TheVariants as places
+use Rattle.control_actions.specs.declared.item.Condition.{Condition}
+use Rattle.control_actions.specs.declared.item.Condition.TheVariants as conditions
 use Rattle.step_laws.specs.SuperArguments.{itself, within}
 use Rattle.step_laws.proofs.StartItems.{AllGood, AreGood, IsFree, IsFreeCondition, good_both, good_todos}
 

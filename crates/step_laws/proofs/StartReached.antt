@@ -11,9 +11,9 @@ use Rattle.rlc_base.specs.declared.place.Pos.{Pos}
 use Rattle.java_control.specs.Calls.{is_reset_of_this}
 use Rattle.java_control.specs.Control.{Step, control_place, next_of, start_in, start_of, step_at, steps_in, ways}
 use Rattle.java_control.specs.Remaining.{Todo, Way}
-use Rattle.java_control.specs.declared.action.Action.{Action}
-use Rattle.java_control.specs.declared.action.Action.TheVariants as actions
-use Rattle.java_control.specs.declared.action.TargetForm.TheVariants as target_forms
+use Rattle.control_actions.specs.declared.action.Action.{Action}
+use Rattle.control_actions.specs.declared.action.Action.TheVariants as actions
+use Rattle.control_actions.specs.declared.action.TargetForm.TheVariants as target_forms
 use Rattle.accepted_programs.specs.Paths.{Comes, Move, move_of, on, relation_of, start}
 use Rattle.step_laws.specs.Starts.{LeadsTo, here, is_super}
 use Rattle.step_laws.specs.Starts as starts

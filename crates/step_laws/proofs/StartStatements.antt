@@ -20,7 +20,7 @@ use Rattle.rlc_base.specs.declared.place.Pos.{Pos}
 use Rattle.java_control.specs.Remaining.{Do, Leave, For}
 use Rattle.java_control.specs.Exceptions.{clauses_of_kind}
 use Rattle.java_control.specs.Statements.{clauses_front, closes, declaration_front, declarator_front, declarator_with, finally_front, for_condition, for_turn, head_front, initial_front, list_of_branch, loop_turn, opens, resources_front, return_front, statement_front, try_front}
-use Rattle.java_control.specs.declared.action.Scope.TheVariants as scopes
+use Rattle.control_actions.specs.declared.action.Scope.TheVariants as scopes
 use Rattle.step_laws.proofs.StartItems.{AllGood, AreGood, IsFree, IsFreeCondition, good_both, good_flat}
 
 -- ---- no head, and so no super call

@@ -22,10 +22,10 @@ use Rattle.java_control.specs.Exceptions.{action_ways, caught, clauses_in, enter
 use Rattle.java_control.specs.Owned.{is_this_node}
 use Rattle.java_control.specs.Remaining.{Todo, Do, Ev, Act, Cond, NullFork, BoolFork, LoopEnd, For, Leave, Catch, Fin, Close, Finish, Supp, Out, Ended, Way}
 use Rattle.java_control.specs.Statements.{first_items, first_items_at, listed_front}
-use Rattle.java_control.specs.declared.action.Action.{Action}
-use Rattle.java_control.specs.declared.action.Action.TheVariants as actions
-use Rattle.java_control.specs.declared.action.Completion.{Completion}
-use Rattle.java_control.specs.declared.action.Completion.TheVariants as completions
+use Rattle.control_actions.specs.declared.action.Action.{Action}
+use Rattle.control_actions.specs.declared.action.Action.TheVariants as actions
+use Rattle.control_actions.specs.declared.action.Completion.{Completion}
+use Rattle.control_actions.specs.declared.action.Completion.TheVariants as completions
 use Rattle.step_laws.specs.Targets.{FindsAside, FindsIt, FindsThis, after, below, evaluated, nowhere_held}
 use Rattle.step_laws.proofs.TargetConditions.{condition_finds}
 use Rattle.step_laws.proofs.TargetFronts.{expression_finds}

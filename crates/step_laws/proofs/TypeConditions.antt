@@ -18,8 +18,8 @@ use Rattle.rlc_base.specs.declared.place.Pos.{Pos}
 use Rattle.java_control.specs.Conditions.{binary_condition, condition_front, equal_condition, kind_condition, literal_condition, node_condition, not_equal_condition, tests_value, unary_condition}
 use Rattle.java_control.specs.NullTests.{compared_with_null}
 use Rattle.java_control.specs.Remaining.{Todo, Todos, nowhere, todos}
-use Rattle.java_control.specs.declared.item.Condition.{Condition}
-use Rattle.java_control.specs.declared.item.Condition.TheVariants as conditions
+use Rattle.control_actions.specs.declared.item.Condition.{Condition}
+use Rattle.control_actions.specs.declared.item.Condition.TheVariants as conditions
 use Rattle.step_laws.specs.Operands.{FindsAside, FindsTypes, ItemsFit, below, evaluated}
 use Rattle.step_laws.proofs.TypeItems.{items_found, items_same, past_more}
 

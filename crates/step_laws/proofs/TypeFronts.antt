@@ -33,13 +33,13 @@ use Rattle.java_control.specs.Expressions.{assignment_front, binary_front, call_
 use Rattle.java_control.specs.NullTests.{compared_with_null}
 use Rattle.java_control.specs.Owned.{declares_field, field_number, has_place, is_owning, is_this, place_of_field}
 use Rattle.java_control.specs.Remaining.{Todo, Ev, Act}
-use Rattle.java_control.specs.declared.action.Action.TheVariants as actions
-use Rattle.java_control.specs.declared.action.Operator.{Operator}
-use Rattle.java_control.specs.declared.action.Operator.TheVariants as operators
-use Rattle.java_control.specs.declared.action.Scope.TheVariants as scopes
-use Rattle.java_control.specs.declared.action.TargetForm.{TargetForm}
-use Rattle.java_control.specs.declared.action.TargetForm.TheVariants as forms
-use Rattle.java_control.specs.declared.place.Place.TheVariants as places
+use Rattle.control_actions.specs.declared.action.Action.TheVariants as actions
+use Rattle.control_actions.specs.declared.action.Operator.{Operator}
+use Rattle.control_actions.specs.declared.action.Operator.TheVariants as operators
+use Rattle.control_actions.specs.declared.action.Scope.TheVariants as scopes
+use Rattle.control_actions.specs.declared.action.TargetForm.{TargetForm}
+use Rattle.control_actions.specs.declared.action.TargetForm.TheVariants as forms
+use Rattle.control_actions.specs.declared.place.Place.TheVariants as places
 use Rattle.step_laws.specs.Operands.{FindsAside, FindsTypes, HasNoObjectAt, MakesText, NoObject, OperandsFit, TakesAll, below, below_and_at, evaluated, field_type, first_argument, params_of, put_at, result_of}
 use Rattle.step_laws.proofs.TypeItems.{Within, all_evaluated, evaluations_find, evaluations_past, finds_more, in_three, past_more, past_three, under_all, under_next}
 use Rattle.step_laws.proofs.OperandTypes.{constant_object, element_none, fits_none, instance_type, new_text, postfix_none, primitive_none, static_none, this_object}

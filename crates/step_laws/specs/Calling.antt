@@ -1,9 +1,9 @@
 -- The actions that may be calls.
 use Rattle.std.specs.Prelude.{Bool, true, false}
-use Rattle.java_control.specs.declared.action.Action.{Action}
-use Rattle.java_control.specs.declared.action.Action.TheVariants as actions
-use Rattle.java_control.specs.declared.action.PlainValue.{PlainValue}
-use Rattle.java_control.specs.declared.action.PlainValue.TheVariants as plain
+use Rattle.control_actions.specs.declared.action.Action.{Action}
+use Rattle.control_actions.specs.declared.action.Action.TheVariants as actions
+use Rattle.control_actions.specs.declared.action.PlainValue.{PlainValue}
+use Rattle.control_actions.specs.declared.action.PlainValue.TheVariants as plain
 
 abbrev pub is_constant_read : PlainValue → Bool
 is_constant_read (plain.LibraryConstant m) = true

@@ -18,21 +18,21 @@ use Rattle.program_model.specs.declared.tree.CatchClause.{CatchClause}
 use Rattle.program_model.specs.Lookups.{method_at, statement_at, type_at, variable_type}
 use Rattle.program_model.specs.SuperTests.{is_under}
 use Rattle.java_control.specs.Exceptions.{clauses_in}
-use Rattle.java_control.specs.declared.action.Action.{Action}
-use Rattle.java_control.specs.declared.action.Action.TheVariants as actions
-use Rattle.java_control.specs.declared.action.ClauseId.{ClauseId}
-use Rattle.java_control.specs.declared.action.Completion.{Completion}
-use Rattle.java_control.specs.declared.action.Completion.TheVariants as completions
-use Rattle.java_control.specs.declared.action.Edge.{Edge}
-use Rattle.java_control.specs.declared.action.Edge.TheVariants as edges
-use Rattle.java_control.specs.declared.action.Operator.{Operator}
-use Rattle.java_control.specs.declared.action.Operator.TheVariants as operators
-use Rattle.java_control.specs.declared.action.PlainValue.{PlainValue}
-use Rattle.java_control.specs.declared.action.PlainValue.TheVariants as plain
-use Rattle.java_control.specs.declared.action.TargetForm.{TargetForm}
-use Rattle.java_control.specs.declared.action.TargetForm.TheVariants as forms
-use Rattle.java_control.specs.declared.place.Place.{Place}
-use Rattle.java_control.specs.declared.place.Place.TheVariants as places
+use Rattle.control_actions.specs.declared.action.Action.{Action}
+use Rattle.control_actions.specs.declared.action.Action.TheVariants as actions
+use Rattle.control_actions.specs.declared.action.ClauseId.{ClauseId}
+use Rattle.control_actions.specs.declared.action.Completion.{Completion}
+use Rattle.control_actions.specs.declared.action.Completion.TheVariants as completions
+use Rattle.control_actions.specs.declared.action.Edge.{Edge}
+use Rattle.control_actions.specs.declared.action.Edge.TheVariants as edges
+use Rattle.control_actions.specs.declared.action.Operator.{Operator}
+use Rattle.control_actions.specs.declared.action.Operator.TheVariants as operators
+use Rattle.control_actions.specs.declared.action.PlainValue.{PlainValue}
+use Rattle.control_actions.specs.declared.action.PlainValue.TheVariants as plain
+use Rattle.control_actions.specs.declared.action.TargetForm.{TargetForm}
+use Rattle.control_actions.specs.declared.action.TargetForm.TheVariants as forms
+use Rattle.control_actions.specs.declared.place.Place.{Place}
+use Rattle.control_actions.specs.declared.place.Place.TheVariants as places
 use Rattle.java_control.specs.Owned.{declares_field, is_owning, place_of_field}
 use Rattle.java_control.specs.Remaining.{Todo, Todos, nil, cons, Do, Ev, Act, Cond, NullFork, BoolFork, LoopEnd, For, Leave, Catch, Fin, Close, Finish, Supp, Out, Ended}
 use Rattle.step_laws.specs.Operands.{ClosesPlainly, below, first_argument, leaves_names, passes, put_at, rests, throws_past}

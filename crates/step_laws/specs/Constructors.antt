@@ -17,9 +17,9 @@ use Rattle.program_model.specs.Lookups.{class_at, expression_at, method_at, stat
 use Rattle.program_model.specs.Overrides.{is_abstract}
 use Rattle.program_model.specs.Typing.{kind_at}
 use Rattle.java_control.specs.Owned.{declares_field, has_place, is_owning}
-use Rattle.java_control.specs.declared.action.Action.{Action}
-use Rattle.java_control.specs.declared.action.Action.TheVariants as actions
-use Rattle.java_control.specs.declared.action.TargetForm.TheVariants as forms
+use Rattle.control_actions.specs.declared.action.Action.{Action}
+use Rattle.control_actions.specs.declared.action.Action.TheVariants as actions
+use Rattle.control_actions.specs.declared.action.TargetForm.TheVariants as forms
 use Rattle.step_laws.specs.Targets.{RunsOnThis}
 
 -- the body is that of a constructor, and the method is a constructor of the class that the body's class extends

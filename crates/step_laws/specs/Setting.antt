@@ -3,9 +3,9 @@ use Rattle.std.specs.Prelude.{ℕ, Bool, false, ◌||◌, nat_eq}
 use Rattle.program_model.specs.declared.tree.Body.{Body}
 use Rattle.java_control.specs.Scopes.{drops_variable}
 use Rattle.java_control.specs.Sources.{is_place, is_this_place}
-use Rattle.java_control.specs.declared.action.Action.{Action}
-use Rattle.java_control.specs.declared.action.Action.TheVariants as actions
-use Rattle.java_control.specs.declared.place.Place.TheVariants as places
+use Rattle.control_actions.specs.declared.action.Action.{Action}
+use Rattle.control_actions.specs.declared.action.Action.TheVariants as actions
+use Rattle.control_actions.specs.declared.place.Place.TheVariants as places
 
 -- the step gives the variable another value, or empties it
 abbrev pub sets_variable : Body → Action → ℕ → Bool

@@ -1,7 +1,7 @@
 -- The call of a super constructor, and what steps lead to.
 use Rattle.std.specs.Prelude.{◌≡◌, ℕ, Bool, true, false, Some, slice_get}
-use Rattle.java_control.specs.declared.action.Action.{Action}
-use Rattle.java_control.specs.declared.action.Action.TheVariants as actions
+use Rattle.control_actions.specs.declared.action.Action.{Action}
+use Rattle.control_actions.specs.declared.action.Action.TheVariants as actions
 use Rattle.accepted_programs.specs.Paths.{Move, Relation}
 
 -- a constructor of the super class is called

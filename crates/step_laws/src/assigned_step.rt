@@ -10,9 +10,9 @@ ghost use Rattle.program_model.specs.Validity.{IsValid};
 ghost use Rattle.accepted_programs.specs.Assigned.{assigns_spoken, is_spoken_variable};
 ghost use Rattle.java_control.specs.Remaining.{Todo};
 ghost use Rattle.java_control.specs.Sources.{source};
-ghost use Rattle.java_control.specs.declared.action.Action.{Action};
-ghost use Rattle.java_control.specs.declared.action.Edge.{Edge};
-ghost use Rattle.java_control.specs.declared.place.Place.TheVariants as places;
+ghost use Rattle.control_actions.specs.declared.action.Action.{Action};
+ghost use Rattle.control_actions.specs.declared.action.Edge.{Edge};
+ghost use Rattle.control_actions.specs.declared.place.Place.TheVariants as places;
 ghost use Rattle.accepted_programs.specs.Paths.{Comes, Move, relation_of};
 ghost use Rattle.step_laws.specs.Setting.{sets_this, sets_variable};
 

@@ -3,8 +3,8 @@
 ghost use Rattle.std.specs.Prelude.{◌≡◌, ◌<◌, ℕ, Bool, true};
 ghost use Rattle.program_model.specs.declared.program.Program.{Program};
 ghost use Rattle.program_model.specs.declared.tree.Body.{Body};
-ghost use Rattle.java_control.specs.declared.action.Action.{Action};
-ghost use Rattle.java_control.specs.declared.action.Edge.{Edge};
+ghost use Rattle.control_actions.specs.declared.action.Action.{Action};
+ghost use Rattle.control_actions.specs.declared.action.Edge.{Edge};
 ghost use Rattle.step_laws.specs.Operands.{left_held};
 ghost use Rattle.step_laws.specs.Origins.{TakesNone};
 

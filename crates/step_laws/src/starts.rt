@@ -6,7 +6,7 @@ ghost use Rattle.program_model.specs.declared.kinds.FieldId.{FieldId};
 ghost use Rattle.program_model.specs.declared.program.Program.{Program};
 ghost use Rattle.program_model.specs.Validity.{IsTypedProgram};
 ghost use Rattle.java_control.specs.Remaining.{Todo};
-ghost use Rattle.java_control.specs.declared.action.Action.TheVariants as actions;
+ghost use Rattle.control_actions.specs.declared.action.Action.TheVariants as actions;
 ghost use Rattle.accepted_programs.specs.Paths.{Comes, Move, relation_of};
 ghost use Rattle.step_laws.specs.Starts.{LeadsTo, is_super};
 ghost use Rattle.step_laws.specs.SuperArguments.{SuperCallsPassNoThis};

@@ -9,10 +9,10 @@ ghost use Rattle.program_model.specs.Validity.{IsTypedProgram};
 ghost use Rattle.java_control.specs.Control.{Step, next_of, start_of};
 ghost use Rattle.java_control.specs.Remaining.{Todo};
 ghost use Rattle.java_control.specs.Sources.{source};
-ghost use Rattle.java_control.specs.declared.action.Action.{Action};
-ghost use Rattle.java_control.specs.declared.action.Action.TheVariants as actions;
-ghost use Rattle.java_control.specs.declared.action.Edge.{Edge};
-ghost use Rattle.java_control.specs.declared.place.Place.TheVariants as places;
+ghost use Rattle.control_actions.specs.declared.action.Action.{Action};
+ghost use Rattle.control_actions.specs.declared.action.Action.TheVariants as actions;
+ghost use Rattle.control_actions.specs.declared.action.Edge.{Edge};
+ghost use Rattle.control_actions.specs.declared.place.Place.TheVariants as places;
 ghost use Rattle.step_laws.specs.Targets.{FindsIt, FindsThis, after, nowhere_held};
 
 /// When a body begins no temp holds `this`, and each action that is to come finds `this` where it takes it from a temp.

@@ -19,7 +19,7 @@ use Rattle.program_model.specs.SuperTests.{is_under}
 use Rattle.program_model.specs.Typing.{IsAssignable, IsCatchClause, IsTypedStatement}
 use Rattle.program_model.specs.Validity.{IsTypedProgram}
 use Rattle.java_control.specs.Exceptions.{clause_taken, clauses_in, clauses_of_kind, takes_wholly}
-use Rattle.java_control.specs.declared.action.ClauseId.{ClauseId}
+use Rattle.control_actions.specs.declared.action.ClauseId.{ClauseId}
 use Rattle.ledger_moves.specs.Choosing.{is_number}
 use Rattle.dispatch_laws.specs.ClassOperands.{EntersClause, IsNotAboveString, IsOfClass, OfClass}
 use Rattle.dispatch_laws.proofs.ClassTypes.{assignable_class}

@@ -13,10 +13,10 @@ use Rattle.program_model.specs.SuperTests.{is_under}
 use Rattle.java_control.specs.Calls.{called_method, temp_at}
 use Rattle.java_control.specs.Control.{Step}
 use Rattle.java_control.specs.Owned.{declares_field, is_owning}
-use Rattle.java_control.specs.declared.action.Action.{Action}
-use Rattle.java_control.specs.declared.action.Action.TheVariants as actions
-use Rattle.java_control.specs.declared.action.TargetForm.{TargetForm}
-use Rattle.java_control.specs.declared.action.TargetForm.TheVariants as forms
+use Rattle.control_actions.specs.declared.action.Action.{Action}
+use Rattle.control_actions.specs.declared.action.Action.TheVariants as actions
+use Rattle.control_actions.specs.declared.action.TargetForm.{TargetForm}
+use Rattle.control_actions.specs.declared.action.TargetForm.TheVariants as forms
 use Rattle.ledger_state.specs.Contents.{HeapContents}
 use Rattle.ledger_state.specs.Locals.{temp_in, temp_value}
 use Rattle.ledger_state.specs.Classes.{is_under_class}

@@ -17,8 +17,8 @@ use Rattle.program_model.specs.Lookups.{class_at, method_at}
 use Rattle.program_model.specs.SuperTests.{is_under}
 use Rattle.program_model.specs.Validity.{IsOfKind, IsTypedProgram}
 use Rattle.program_model.proofs.HierarchyLaws.{is_under_law}
-use Rattle.java_control.specs.declared.action.Action.{Action}
-use Rattle.java_control.specs.declared.action.Action.TheVariants as actions
+use Rattle.control_actions.specs.declared.action.Action.{Action}
+use Rattle.control_actions.specs.declared.action.Action.TheVariants as actions
 use Rattle.ledger_steps.specs.Bodies.{constructs, is_constructor_kind}
 use Rattle.stub_conduct.specs.declared.choice.Choice.{Choice}
 use Rattle.stub_conduct.specs.declared.choice.Conduct.{Conduct}

@@ -13,19 +13,19 @@ use Rattle.program_model.specs.declared.tree.Body.{Body}
 use Rattle.program_model.specs.Lookups.{method_at}
 use Rattle.java_control.specs.Calls.{called_method, operand_at, temp_at}
 use Rattle.java_control.specs.Sources.{is_throws, source}
-use Rattle.java_control.specs.declared.action.Action.{Action}
-use Rattle.java_control.specs.declared.action.Action.TheVariants as actions
-use Rattle.java_control.specs.declared.action.Completion.{Completion}
-use Rattle.java_control.specs.declared.action.Completion.TheVariants as completions
-use Rattle.java_control.specs.declared.action.Edge.{Edge}
-use Rattle.java_control.specs.declared.action.Edge.TheVariants as edges
-use Rattle.java_control.specs.declared.action.PlainValue.{PlainValue}
-use Rattle.java_control.specs.declared.action.Scope.{Scope}
-use Rattle.java_control.specs.declared.action.Scope.TheVariants as scopes
-use Rattle.java_control.specs.declared.action.TargetForm.{TargetForm}
-use Rattle.java_control.specs.declared.action.TargetForm.TheVariants as forms
-use Rattle.java_control.specs.declared.place.Place.{Place}
-use Rattle.java_control.specs.declared.place.Place.TheVariants as places
+use Rattle.control_actions.specs.declared.action.Action.{Action}
+use Rattle.control_actions.specs.declared.action.Action.TheVariants as actions
+use Rattle.control_actions.specs.declared.action.Completion.{Completion}
+use Rattle.control_actions.specs.declared.action.Completion.TheVariants as completions
+use Rattle.control_actions.specs.declared.action.Edge.{Edge}
+use Rattle.control_actions.specs.declared.action.Edge.TheVariants as edges
+use Rattle.control_actions.specs.declared.action.PlainValue.{PlainValue}
+use Rattle.control_actions.specs.declared.action.Scope.{Scope}
+use Rattle.control_actions.specs.declared.action.Scope.TheVariants as scopes
+use Rattle.control_actions.specs.declared.action.TargetForm.{TargetForm}
+use Rattle.control_actions.specs.declared.action.TargetForm.TheVariants as forms
+use Rattle.control_actions.specs.declared.place.Place.{Place}
+use Rattle.control_actions.specs.declared.place.Place.TheVariants as places
 use Rattle.frame_laws.specs.SmallActions.{IsSmallAction}
 use Rattle.ledger_state.specs.Contents.{HeapContents}
 use Rattle.ledger_state.specs.declared.locals.Locals.{Locals}

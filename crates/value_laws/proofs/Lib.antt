@@ -33,6 +33,7 @@ pub use Rattle.frame_laws.proofs.AliasConducts
 pub use Rattle.frame_laws.proofs.AliasFacts
 pub use Rattle.frame_laws.proofs.AliasRoots
 pub use Rattle.frame_laws.proofs.LastingFacts
+pub use Rattle.frame_laws.proofs.LastingSteps
 pub use Rattle.frame_laws.proofs.StoresOutside
 pub use Rattle.frame_laws.proofs.ArgumentLaws
 pub use Rattle.dispatch_laws.proofs.Begun
@@ -112,7 +113,6 @@ pub use Rattle.frame_laws.proofs.SignedPromises
 pub use Rattle.frame_laws.proofs.Stacks
 pub use Rattle.dispatch_laws.proofs.StartReached
 pub use Rattle.frame_laws.proofs.Steps
-pub use Rattle.dispatch_laws.proofs.ResetsUp
 pub use Rattle.dispatch_laws.proofs.StoredObjects
 pub use Rattle.dispatch_laws.proofs.StoreResets
 pub use Rattle.frame_laws.proofs.Stores

@@ -14,14 +14,14 @@ use Rattle.java_control.specs.Control.{Step, control_place, next_of, step_at, st
 use Rattle.java_control.specs.Exceptions.{action_ways, exceptions_of, throws}
 use Rattle.java_control.specs.Remaining.{Todo, Do, Act, Way}
 use Rattle.java_control.specs.Sources.{is_throws}
-use Rattle.java_control.specs.declared.action.Action.{Action}
-use Rattle.java_control.specs.declared.action.Action.TheVariants as actions
-use Rattle.java_control.specs.declared.action.Edge.{Edge}
-use Rattle.java_control.specs.declared.action.Edge.TheVariants as edges
-use Rattle.java_control.specs.declared.action.PlainValue.{PlainValue}
-use Rattle.java_control.specs.declared.action.PlainValue.TheVariants as plain
-use Rattle.java_control.specs.declared.action.TargetForm.TheVariants as forms
-use Rattle.java_control.specs.declared.place.Place.{Place}
+use Rattle.control_actions.specs.declared.action.Action.{Action}
+use Rattle.control_actions.specs.declared.action.Action.TheVariants as actions
+use Rattle.control_actions.specs.declared.action.Edge.{Edge}
+use Rattle.control_actions.specs.declared.action.Edge.TheVariants as edges
+use Rattle.control_actions.specs.declared.action.PlainValue.{PlainValue}
+use Rattle.control_actions.specs.declared.action.PlainValue.TheVariants as plain
+use Rattle.control_actions.specs.declared.action.TargetForm.TheVariants as forms
+use Rattle.control_actions.specs.declared.place.Place.{Place}
 use Rattle.stub_conduct.specs.declared.choice.Choice.{Choice}
 use Rattle.stub_conduct.specs.declared.choice.Conduct.{Conduct}
 use Rattle.stub_conduct.specs.declared.choice.Conduct.TheVariants as conducts

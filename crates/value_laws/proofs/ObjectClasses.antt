@@ -11,8 +11,8 @@ use Rattle.program_model.specs.declared.program.ParamSig.{ParamSig}
 use Rattle.program_model.specs.declared.program.Program.{Program}
 use Rattle.program_model.specs.Lookups.{method_at}
 use Rattle.java_control.specs.Owned.{is_owning}
-use Rattle.java_control.specs.declared.action.Action.{Action}
-use Rattle.java_control.specs.declared.action.Action.TheVariants as actions
+use Rattle.control_actions.specs.declared.action.Action.{Action}
+use Rattle.control_actions.specs.declared.action.Action.TheVariants as actions
 use Rattle.stub_conduct.specs.declared.choice.Conduct.{Conduct}
 use Rattle.stub_conduct.specs.declared.choice.Conduct.TheVariants as conducts
 use Rattle.ledger_state.specs.Classes.{class_in}
@@ -126,9 +126,6 @@ appended_keeps h c n d is = go (nat_eq n (next_number h)) refl
 
 same_keeps : (h k : HeapContents) → ((n : ℕ) → object_class k n ≡ object_class h n) → KeepsClasses h k
 same_keeps h k same n c is = same n ∙ is
-
-further_keeps : (h k j : HeapContents) → KeepsClasses h k → KeepsClasses k j → KeepsClasses h j
-further_keeps h k j first second n c is = second n c (first n c is)
 
 moved_count : (p : Program) (t : VType) (o : Owner) (v : Value) (h : HeapContents) → next_number (move p t o v h) ≡ next_number h
 moved_count p t o v h = go (root_of h v)

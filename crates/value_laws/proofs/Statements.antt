@@ -14,12 +14,12 @@ use Rattle.program_model.specs.declared.tree.StatementKind.TheVariants as statem
 use Rattle.program_model.specs.declared.tree.SuperCall.{SuperCall}
 use Rattle.program_model.specs.declared.tree.TStmt.{TStmt}
 use Rattle.program_model.specs.declared.tree.TryStatement.{TryStatement}
-use Rattle.java_control.specs.declared.action.Action.TheVariants as actions
-use Rattle.java_control.specs.declared.action.Scope.TheVariants as scopes
-use Rattle.java_control.specs.declared.item.Closing.{Closing}
-use Rattle.java_control.specs.declared.item.Condition.{Condition}
-use Rattle.java_control.specs.declared.item.Condition.TheVariants as conditions
-use Rattle.java_control.specs.declared.place.Place.TheVariants as places
+use Rattle.control_actions.specs.declared.action.Action.TheVariants as actions
+use Rattle.control_actions.specs.declared.action.Scope.TheVariants as scopes
+use Rattle.control_actions.specs.declared.item.Closing.{Closing}
+use Rattle.control_actions.specs.declared.item.Condition.{Condition}
+use Rattle.control_actions.specs.declared.item.Condition.TheVariants as conditions
+use Rattle.control_actions.specs.declared.place.Place.TheVariants as places
 use Rattle.java_control.specs.Expressions.{evaluations}
 use Rattle.java_control.specs.Remaining.{Todo, Do, Act, For, Leave, expression_place}
 use Rattle.java_control.specs.Statements.{clauses_front, close_front, closes, declarator_front, declarator_with, expression_statement, finally_front, first_items, first_items_at, for_condition, for_turn, head_front, initial_front, list_of_branch, listed_front, loop_turn, opens, resources_front, return_front, statement_front, super_front, try_front, turn_front}

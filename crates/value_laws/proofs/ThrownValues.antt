@@ -12,13 +12,13 @@ use Rattle.java_control.specs.Calls.{completion_temp, is_reset_of_this}
 use Rattle.java_control.specs.Control.{Step}
 use Rattle.java_control.specs.Exceptions.{exception_depth}
 use Rattle.java_control.specs.Sources.{emptied, is_null_pointer, is_part, is_place, is_temp_from, source, temp_of}
-use Rattle.java_control.specs.declared.action.Action.{Action}
-use Rattle.java_control.specs.declared.action.Action.TheVariants as actions
-use Rattle.java_control.specs.declared.action.Completion.{Completion}
-use Rattle.java_control.specs.declared.action.Edge.{Edge}
-use Rattle.java_control.specs.declared.action.Edge.TheVariants as edges
-use Rattle.java_control.specs.declared.place.Place.{Place}
-use Rattle.java_control.specs.declared.place.Place.TheVariants as places
+use Rattle.control_actions.specs.declared.action.Action.{Action}
+use Rattle.control_actions.specs.declared.action.Action.TheVariants as actions
+use Rattle.control_actions.specs.declared.action.Completion.{Completion}
+use Rattle.control_actions.specs.declared.action.Edge.{Edge}
+use Rattle.control_actions.specs.declared.action.Edge.TheVariants as edges
+use Rattle.control_actions.specs.declared.place.Place.{Place}
+use Rattle.control_actions.specs.declared.place.Place.TheVariants as places
 use Rattle.frame_laws.specs.SmallActions.{IsSmallAction, IsSmallTemp}
 use Rattle.dispatch_laws.specs.Accept.{Accept}
 use Rattle.ledger_state.specs.Contents.{HeapContents}
@@ -62,9 +62,6 @@ nothing_at f n x past =
 among_self : (d m : ℕ) → 0 < m → (nat_le d d && nat_lt d (d + m)) ≡ true
 among_self d m some = grind (arith, nat_tests)
 
-or_true : (b : Bool) → (true || b) ≡ true
-or_true b = refl
-
 none_made : (d : ℕ) → ◌≡◌ {A = Option Place} None (Some (places.Temp d)) → ⊥
 none_made d is = cc
 
@@ -103,19 +100,6 @@ way_thrown : (a : Action) (c : ClassId) → IsWay a (edges.Throws c)
 way_thrown actions.Skip c = tt
 way_thrown (actions.Put f d this) c = tt
 way_thrown a c = tt
-
-small_depth : (p : Program) (a : Action) → IsSmallAction p a → made_place a ≡ Some (places.Temp (exception_depth a)) → exception_depth a < 64
-small_depth p actions.Skip small made = absurd (none_made 0 made)
-small_depth p (actions.Plain x v) small made = omega arith
-small_depth p (actions.Op k d n) small made = small.0
-small_depth p (actions.Get f d this) small made = small
-small_depth p (actions.Put f d this) small made = omega (arith, small)
-small_depth p (actions.Cast t d) small made = small
-small_depth p (actions.Call m d n form) small made = small.0
-small_depth p (actions.New m d n) small made = omega (arith, small)
-small_depth p (actions.Super m d n) small made = small.0
-small_depth p (actions.Raise d x) small made = small
-small_depth p a small made = absurd (none_made 0 made)
 
 -- ---- a step
 

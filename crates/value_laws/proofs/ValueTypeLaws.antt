@@ -26,13 +26,13 @@ use Rattle.rlc_base.specs.declared.place.Pos.{Pos}
 use Rattle.java_control.specs.Calls.{called_method}
 use Rattle.java_control.specs.Control.{Step, next_of}
 use Rattle.java_control.specs.Sources.{is_throws}
-use Rattle.java_control.specs.declared.action.Action.{Action}
-use Rattle.java_control.specs.declared.action.Action.TheVariants as actions
-use Rattle.java_control.specs.declared.action.Completion.{Completion}
-use Rattle.java_control.specs.declared.action.Completion.TheVariants as completions
-use Rattle.java_control.specs.declared.action.Edge.{Edge}
-use Rattle.java_control.specs.declared.action.PlainValue.TheVariants as plain
-use Rattle.java_control.specs.declared.place.Place.TheVariants as places
+use Rattle.control_actions.specs.declared.action.Action.{Action}
+use Rattle.control_actions.specs.declared.action.Action.TheVariants as actions
+use Rattle.control_actions.specs.declared.action.Completion.{Completion}
+use Rattle.control_actions.specs.declared.action.Completion.TheVariants as completions
+use Rattle.control_actions.specs.declared.action.Edge.{Edge}
+use Rattle.control_actions.specs.declared.action.PlainValue.TheVariants as plain
+use Rattle.control_actions.specs.declared.place.Place.TheVariants as places
 use Rattle.dispatch_laws.specs.Accept.{Accept}
 use Rattle.frame_laws.specs.Paths.{move_of}
 use Rattle.stub_conduct.specs.declared.choice.Choice.{Choice}
@@ -66,7 +66,7 @@ use Rattle.frame_laws.specs.LedgerRunsOutcomes.{went, ended, stray}
 use Rattle.frame_laws.specs.Starts.{start_config}
 use Rattle.frame_laws.specs.LedgerRunsSteps.{began, end, if_thrown, library_went, main_ended, moved, moved_by, returned, returned_by, step, top_move, within}
 use Rattle.frame_laws.specs.Agreement.{HasMadeClasses}
-use Rattle.dispatch_laws.specs.PlainForms.{HasPlainForms, IsAnsweredBy, IsPlainAction, IsPlainCall, LibraryRunsFor, MayRun, RunsFor, by_class, by_name, run_by}
+use Rattle.dispatch_laws.specs.PlainForms.{HasPlainForms, IsAnsweredBy, IsPlainAction, IsPlainCall, MayRun, RunsFor, by_class, by_name, run_by}
 use Rattle.frame_laws.proofs.CallWays.{one_action}
 use Rattle.dispatch_laws.specs.Operands.{Fits, MakesText, NoObject, Returns, field_type, params_of, result_of}
 use Rattle.dispatch_laws.specs.StepOrigins.{IsCastToNone, MakesNone}

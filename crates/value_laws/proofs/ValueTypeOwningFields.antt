@@ -17,8 +17,8 @@ use Rattle.program_model.specs.SuperTests.{is_class}
 use Rattle.program_model.specs.Validity.{IsTypedProgram}
 use Rattle.java_control.specs.PlaceNumbers.{IsSmall}
 use Rattle.java_control.specs.Owned.{fields_beside, fields_in, field_number, is_beside_method, is_owning, is_owning_field, owning_before, place_of_field}
-use Rattle.java_control.specs.declared.place.Place.{Place}
-use Rattle.java_control.specs.declared.place.Place.TheVariants as places
+use Rattle.control_actions.specs.declared.place.Place.{Place}
+use Rattle.control_actions.specs.declared.place.Place.TheVariants as places
 use Rattle.ledger_steps.specs.Bodies.{has_field_place, is_class_of, is_field_in, method_in}
 use Rattle.frame_laws.specs.Room.{HasRoom}
 use Rattle.ledger_state.specs.declared.locals.Locals.{Locals}

@@ -13,16 +13,16 @@ use Rattle.program_model.specs.declared.tree.Body.{Body}
 use Rattle.program_model.specs.declared.tree.CatchClause.{CatchClause}
 use Rattle.program_model.specs.declared.tree.TExpr.{TExpr}
 use Rattle.program_model.specs.declared.tree.TStmt.{TStmt}
-use Rattle.java_control.specs.declared.action.Action.{Action}
-use Rattle.java_control.specs.declared.action.Action.TheVariants as actions
-use Rattle.java_control.specs.declared.action.Completion.{Completion}
-use Rattle.java_control.specs.declared.action.Completion.TheVariants as completions
-use Rattle.java_control.specs.declared.action.Edge.{Edge}
-use Rattle.java_control.specs.declared.action.Edge.TheVariants as edges
-use Rattle.java_control.specs.declared.action.Scope.{Scope}
-use Rattle.java_control.specs.declared.action.Scope.TheVariants as scopes
-use Rattle.java_control.specs.declared.place.Place.TheVariants as places
-use Rattle.java_control.specs.declared.item.Closing.{Closing}
+use Rattle.control_actions.specs.declared.action.Action.{Action}
+use Rattle.control_actions.specs.declared.action.Action.TheVariants as actions
+use Rattle.control_actions.specs.declared.action.Completion.{Completion}
+use Rattle.control_actions.specs.declared.action.Completion.TheVariants as completions
+use Rattle.control_actions.specs.declared.action.Edge.{Edge}
+use Rattle.control_actions.specs.declared.action.Edge.TheVariants as edges
+use Rattle.control_actions.specs.declared.action.Scope.{Scope}
+use Rattle.control_actions.specs.declared.action.Scope.TheVariants as scopes
+use Rattle.control_actions.specs.declared.place.Place.TheVariants as places
+use Rattle.control_actions.specs.declared.item.Closing.{Closing}
 use Rattle.java_control.specs.Calls.{completion_temp}
 use Rattle.java_control.specs.Completions.{at_catch, at_depth, at_loop, at_supp, ends, out}
 use Rattle.java_control.specs.Conditions.{condition_front}

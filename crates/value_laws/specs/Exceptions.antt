@@ -4,8 +4,8 @@ use Rattle.rlc_base.specs.declared.place.Pos.{Pos}
 use Rattle.program_model.specs.declared.kinds.ClassId.{ClassId}
 use Rattle.program_model.specs.declared.program.Program.{Program}
 use Rattle.java_control.specs.Control.{Step}
-use Rattle.java_control.specs.declared.action.Action.TheVariants as actions
-use Rattle.java_control.specs.declared.action.Completion.TheVariants as completions
+use Rattle.control_actions.specs.declared.action.Action.TheVariants as actions
+use Rattle.control_actions.specs.declared.action.Completion.TheVariants as completions
 use Rattle.ledger_state.specs.Contents.{HeapContents}
 use Rattle.ledger_moves.specs.Configuration.{Frame}
 use Rattle.ledger_moves.specs.Choosing.{frame_steps}

@@ -9,7 +9,7 @@ use Rattle.program_model.specs.Lookups.{body_at, method_at}
 use Rattle.program_model.specs.SuperTests.{is_class}
 use Rattle.java_control.specs.Calls.{called_method}
 use Rattle.java_control.specs.Control.{Step}
-use Rattle.java_control.specs.declared.action.Action.TheVariants as actions
+use Rattle.control_actions.specs.declared.action.Action.TheVariants as actions
 use Rattle.frame_laws.specs.Paths.{Comes, relation_of}
 use Rattle.ledger_state.specs.declared.locals.Locals.{Locals}
 use Rattle.ledger_state.specs.declared.object.StoredField.{StoredField}

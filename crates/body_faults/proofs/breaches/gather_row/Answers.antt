@@ -2,8 +2,8 @@
 use Rattle.std.proofs.Common.{◌+◌, get_or, take}
 use Rattle.std.proofs.lemmas.Option.{slice_get-get_or}
 use Rattle.java_cfg.specs.declared.arc.Arc.{Arc}
-use Rattle.java_control.specs.declared.action.Action.TheVariants.{Skip}
-use Rattle.java_control.specs.declared.action.Edge.TheVariants.{Go}
+use Rattle.control_actions.specs.declared.action.Action.TheVariants.{Skip}
+use Rattle.control_actions.specs.declared.action.Edge.TheVariants.{Go}
 use Rattle.reached_facts.specs.Points.{flat_from}
 use Rattle.reached_facts.proofs.ListPoints.{from_more}
 use Rattle.body_faults.specs.Broken.{broken_by}

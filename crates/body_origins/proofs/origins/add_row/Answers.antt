@@ -2,8 +2,8 @@
 use Rattle.std.proofs.Common.{get_or}
 use Rattle.std.proofs.lemmas.Option.{slice_get-get_or}
 use Rattle.java_cfg.specs.declared.arc.Arc.{Arc}
-use Rattle.java_control.specs.declared.action.Action.TheVariants.{Skip}
-use Rattle.java_control.specs.declared.action.Edge.TheVariants.{Go}
+use Rattle.control_actions.specs.declared.action.Action.TheVariants.{Skip}
+use Rattle.control_actions.specs.declared.action.Edge.TheVariants.{Go}
 use Rattle.body_origins.specs.Origins.{IsOriginsCause, arc_births, origins_in, row_births}
 use Rattle.body_origins.proofs.OriginLaws.{flat_cause, flat_taken, passed_on}
 use Rattle.body_origins.proofs.origins.add_row.Goals as goal

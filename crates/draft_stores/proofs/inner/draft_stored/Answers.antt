@@ -1,7 +1,7 @@
 use Rattle.std.proofs.Common.{◌≡◌, ◌∙◌, sym, subst, ◌∷◌, map, reverse, true, false}
 use Rattle.std.specs.Prelude.{IfOk, IfSome}
 use Rattle.program_model.specs.Lookups.{method_at}
-use Rattle.java_control.specs.Owned.{is_owning}
+use Rattle.control_actions.specs.Owned.{is_owning}
 use Rattle.ledger_obligations.specs.Obligations.{held_in}
 use Rattle.ledger_state.specs.Locals.{held}
 use Rattle.ledger_steps.specs.Effects.{Effect}

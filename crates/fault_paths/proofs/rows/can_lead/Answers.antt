@@ -2,8 +2,8 @@
 use Rattle.std.proofs.Common.{get_or, sym}
 use Rattle.std.proofs.lemmas.Option.{slice_get-get_or}
 use Rattle.java_cfg.specs.declared.arc.Arc.{Arc}
-use Rattle.java_control.specs.declared.action.Action.TheVariants.{Skip}
-use Rattle.java_control.specs.declared.action.Edge.TheVariants.{Go}
+use Rattle.control_actions.specs.declared.action.Action.TheVariants.{Skip}
+use Rattle.control_actions.specs.declared.action.Edge.TheVariants.{Go}
 use Rattle.fault_paths.specs.Tests.{can_lead_by}
 use Rattle.fault_paths.proofs.AnyLaws.{any_here, any_next}
 use Rattle.fault_paths.proofs.rows.can_lead.Goals as goal

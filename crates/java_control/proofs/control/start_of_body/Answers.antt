@@ -1,7 +1,7 @@
 -- The first items hold no lists.
 use Rattle.std.proofs.Common.{◌∙◌, ◌++◌, ap, map}
-use Rattle.java_control.specs.Remaining.{todos}
-use Rattle.java_control.specs.Tables.{list_at, view_in}
+use Rattle.control_actions.specs.Remaining.{todos}
+use Rattle.control_actions.specs.Tables.{list_at, view_in}
 use Rattle.java_control.proofs.StepLemmas.{start_list}
 use Rattle.java_control.proofs.control.start_of_body.Goals as goal
 

@@ -1,7 +1,7 @@
 -- What is left after the step: its front, the list behind the front, and what was not used up.
 use Rattle.std.proofs.Common.{◌∙◌, ◌++◌, ap, map}
-use Rattle.java_control.specs.Remaining.{todos}
-use Rattle.java_control.specs.Tables.{list_at, view_in}
+use Rattle.control_actions.specs.Remaining.{todos}
+use Rattle.control_actions.specs.Tables.{list_at, view_in}
 use Rattle.java_control.proofs.StepLemmas.{step_list}
 use Rattle.java_control.proofs.control.step_by.Goals as goal
 

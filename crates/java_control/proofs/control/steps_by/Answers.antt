@@ -2,10 +2,10 @@
 use Rattle.std.proofs.Common.{◌∙◌, ◌+◌, ◌++◌, ◌≤◌, ap, arith, drop, length, map}
 use Rattle.java_control.specs.Changes.{highest_steps, seen, step_in}
 use Rattle.java_control.specs.Becoming.{step_of}
-use Rattle.java_control.specs.Remaining.{todos}
-use Rattle.java_control.specs.Tables.{list_at}
+use Rattle.control_actions.specs.Remaining.{todos}
+use Rattle.control_actions.specs.Tables.{list_at}
 use Rattle.java_control.proofs.StepLemmas.{step_more, steps_small, way_next, way_small}
-use Rattle.java_control.proofs.TableLemmas.{keeps_trans}
+use Rattle.control_actions.proofs.TableLemmas.{keeps_trans}
 use Rattle.java_control.proofs.control.steps_by.Goals as goal
 
 pub step_by-requires-clause-front : goal.step_by-requires-clause-front

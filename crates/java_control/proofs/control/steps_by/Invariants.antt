@@ -1,8 +1,8 @@
 use Rattle.std.proofs.Common.{◌≡◌, ◌≤◌, ◌++◌, drop, length, map}
 use Rattle.java_control.specs.Changes.{seen, highest_steps, step_in}
 use Rattle.java_control.specs.Becoming.{step_of}
-use Rattle.java_control.specs.Remaining.{todos}
-use Rattle.java_control.specs.Tables.{Keeps, list_at}
+use Rattle.control_actions.specs.Remaining.{todos}
+use Rattle.control_actions.specs.Tables.{Keeps, list_at}
 use Rattle.java_control.proofs.control.steps_by.Given as goal
 
 abbrev pub invariant-loop-way : goal.invariant-loop-way

@@ -4,8 +4,8 @@ use Rattle.std.specs.Prelude.{IfOk, slice_get}
 use Rattle.java_control.specs.Becoming.{becomes, step_of}
 use Rattle.java_control.specs.Changes.{seen, step_in}
 use Rattle.java_control.specs.Control.{Step, steps_of}
-use Rattle.java_control.specs.Remaining.{todos}
-use Rattle.java_control.specs.Tables.{list_at}
+use Rattle.control_actions.specs.Remaining.{todos}
+use Rattle.control_actions.specs.Tables.{list_at}
 use Rattle.java_control.proofs.WayLemmas.{steps_split}
 use Rattle.java_control.proofs.control.steps_in_body.Goals as goal
 

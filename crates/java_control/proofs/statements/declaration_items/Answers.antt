@@ -1,8 +1,8 @@
 -- What an element gives is added behind what was there.
 use Rattle.std.proofs.Common.{◌∙◌, ap, map}
 use Rattle.java_control.specs.Statements.{declarator_front}
-use Rattle.java_control.specs.Tables.{bare, highest_of}
-use Rattle.java_control.proofs.FlatLemmas.{flat_map_step}
+use Rattle.control_actions.specs.Tables.{bare, highest_of}
+use Rattle.expression_control.proofs.FlatLemmas.{flat_map_step}
 use Rattle.java_control.proofs.statements.declaration_items.Goals as goal
 
 pub loop-name-preserved : goal.loop-name-preserved

@@ -1,5 +1,5 @@
 -- One statement more is added behind those before it.
-use Rattle.java_control.proofs.FlatLemmas.{dos_step, do_small}
+use Rattle.expression_control.proofs.FlatLemmas.{dos_step, do_small}
 use Rattle.java_control.proofs.statements.dos.Goals as goal
 
 pub loop-s-preserved : goal.loop-s-preserved

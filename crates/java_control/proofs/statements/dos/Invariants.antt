@@ -1,6 +1,6 @@
 use Rattle.std.proofs.Common.{◌≡◌, ◌++◌, drop, map}
-use Rattle.java_control.specs.Remaining.{Do}
-use Rattle.java_control.specs.Tables.{bare, highest_of}
+use Rattle.control_actions.specs.Remaining.{Do}
+use Rattle.control_actions.specs.Tables.{bare, highest_of}
 use Rattle.java_control.proofs.statements.dos.Given as goal
 
 abbrev pub invariant-loop-s : goal.invariant-loop-s

@@ -1,10 +1,10 @@
 -- What an element gives is added behind what was there.
 use Rattle.std.proofs.Common.{◌∙◌, ap, map}
 use Rattle.program_model.specs.declared.kinds.ExprId.{ExprId}
-use Rattle.java_control.specs.Remaining.{expression_place}
+use Rattle.control_actions.specs.Remaining.{expression_place}
 use Rattle.java_control.specs.Statements.{expression_statement}
-use Rattle.java_control.specs.Tables.{bare, highest_of}
-use Rattle.java_control.proofs.FlatLemmas.{flat_map_step}
+use Rattle.control_actions.specs.Tables.{bare, highest_of}
+use Rattle.expression_control.proofs.FlatLemmas.{flat_map_step}
 use Rattle.java_control.proofs.statements.head_items.Goals as goal
 
 pub loop-e-preserved : goal.loop-e-preserved

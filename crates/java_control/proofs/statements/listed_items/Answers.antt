@@ -3,8 +3,8 @@ use Rattle.std.proofs.Common.{◌∙◌, ap, map}
 use Rattle.program_model.specs.declared.kinds.StmtId.{StmtId}
 use Rattle.program_model.specs.Lookups.{statement_at}
 use Rattle.java_control.specs.Statements.{first_items_at}
-use Rattle.java_control.specs.Tables.{bare, highest_of}
-use Rattle.java_control.proofs.FlatLemmas.{flat_map_step}
+use Rattle.control_actions.specs.Tables.{bare, highest_of}
+use Rattle.expression_control.proofs.FlatLemmas.{flat_map_step}
 use Rattle.java_control.proofs.statements.listed_items.Goals as goal
 
 pub loop-s-preserved : goal.loop-s-preserved

@@ -1,6 +1,6 @@
 use Rattle.std.proofs.Common.{◌≡◌, ◌++◌, drop, map}
 use Rattle.java_control.specs.Statements.{listed_front}
-use Rattle.java_control.specs.Tables.{bare, highest_of}
+use Rattle.control_actions.specs.Tables.{bare, highest_of}
 use Rattle.java_control.proofs.statements.listed_items.Given as goal
 
 abbrev pub invariant-loop-s : goal.invariant-loop-s

@@ -1,5 +1,5 @@
 use Rattle.std.proofs.Common.{◌≡◌, ◌++◌, drop, map}
-use Rattle.java_control.specs.Tables.{bare, highest_of}
+use Rattle.control_actions.specs.Tables.{bare, highest_of}
 use Rattle.std.specs.Prelude.{flat_map}
 use Rattle.java_control.specs.Statements.{opens}
 use Rattle.java_control.proofs.statements.opening_items.Given as goal

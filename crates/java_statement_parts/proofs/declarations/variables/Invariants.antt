@@ -3,7 +3,7 @@ use Rattle.std.proofs.Common.{◌≡◌, ◌+◌, ◌++◌, length, map, drop}
 use Rattle.java_syntax.specs.StatementTrees.{variable_of}
 use Rattle.java_typed_trees.specs.ExpressionTrees.{tree_of}
 use Rattle.java_statement_parts.specs.Declarations.{declared_locals, declarators, initializer_trees, variables_cases}
-use Rattle.java_statement_parts.specs.Scopes.{context_at}
+use Rattle.java_statement_scopes.specs.Scopes.{context_at}
 use Rattle.java_statement_parts.proofs.declarations.variables.Given as goal
 
 abbrev pub invariant-loop-v : goal.invariant-loop-v

@@ -3,7 +3,7 @@ use Rattle.std.proofs.Common.{◌≡◌, ◌+◌, ◌++◌, length, map, drop}
 use Rattle.java_syntax.specs.StatementTrees.{resource_of}
 use Rattle.java_typed_trees.specs.ExpressionTrees.{tree_of}
 use Rattle.java_statement_parts.specs.Resources.{opening_trees, resource_locals, resource_shapes, resources_cases}
-use Rattle.java_statement_parts.specs.Scopes.{context_at}
+use Rattle.java_statement_scopes.specs.Scopes.{context_at}
 use Rattle.java_statement_parts.proofs.resources.try_resources.Given as goal
 
 abbrev pub invariant-loop-r : goal.invariant-loop-r

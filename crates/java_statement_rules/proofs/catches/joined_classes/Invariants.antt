@@ -1,5 +1,5 @@
 use Rattle.std.proofs.Common.{◌≡◌, drop}
-use Rattle.java_expression_rules.specs.Surroundings.{surroundings_of}
+use Rattle.java_call_rules.specs.Surroundings.{surroundings_of}
 use Rattle.java_statement_rules.specs.CatchClauses.{caught_classes, joined_classes}
 use Rattle.java_statement_rules.proofs.catches.joined_classes.Given as goal
 

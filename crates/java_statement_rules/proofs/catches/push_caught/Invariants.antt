@@ -1,5 +1,5 @@
 use Rattle.std.proofs.Common.{◌≡◌, ◌++◌, take}
-use Rattle.java_expression_rules.specs.Surroundings.{surroundings_of}
+use Rattle.java_call_rules.specs.Surroundings.{surroundings_of}
 use Rattle.java_statement_rules.specs.CatchClauses.{caught_by}
 use Rattle.java_statement_rules.proofs.catches.push_caught.Given as goal
 

@@ -1,5 +1,5 @@
 use Rattle.std.proofs.Common.{◌≡◌, ◌++◌, take}
-use Rattle.java_expression_rules.specs.Surroundings.{surroundings_of}
+use Rattle.java_call_rules.specs.Surroundings.{surroundings_of}
 use Rattle.java_statement_rules.specs.CatchClauses.{classes_named}
 use Rattle.java_statement_rules.proofs.catches.push_named.Given as goal
 

@@ -1,8 +1,8 @@
 -- The arguments that are typed, and those that are left, are all arguments.
 use Rattle.std.proofs.Common.{◌≡◌, ◌++◌, map, drop}
 use Rattle.java_syntax.specs.ExpressionTrees.{expr_of, expressions}
-use Rattle.java_expression_rules.specs.Surroundings.{surroundings_of}
-use Rattle.java_expression_rules.specs.TypedParts.{typing_of}
+use Rattle.java_call_rules.specs.Surroundings.{surroundings_of}
+use Rattle.java_call_rules.specs.TypedParts.{typing_of}
 use Rattle.java_typed_expressions.specs.Cases.{argument_cases}
 use Rattle.java_typed_expressions.specs.Typings.{typings}
 use Rattle.java_typed_expressions.proofs.expressions.+expressions.Given as goal

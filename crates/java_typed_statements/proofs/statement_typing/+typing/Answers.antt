@@ -8,12 +8,13 @@ use Rattle.java_typed_trees.specs.StatementTrees as forms
 use Rattle.java_statement_rules.specs.Completions.{and_then, one_of}
 use Rattle.java_statement_rules.specs.Contexts.{numbered_from}
 use Rattle.java_statement_parts.specs.Resources.{opening_trees, resource_shapes, resources_cases}
-use Rattle.java_statement_parts.specs.Scopes.{context_at}
+use Rattle.java_statement_scopes.specs.Scopes.{context_at}
 use Rattle.java_typed_statements.specs.StatementCases.{block_cases, catches_cases, finally_cases, statement_cases}
 use Rattle.java_typed_statements.specs.StatementCompletions.{block_completion, catches_completion, completion}
 use Rattle.java_typed_statements.specs.StatementContexts.{behind_resources}
 use Rattle.java_typed_statements.specs.StatementTrees.{block_tree, catch_forms, catch_trees, finally_tree, has_finally, statement_tree}
-use Rattle.java_typed_statements.proofs.Nodes.{block_is_node, finally_is_some, try_is_node}
+use Rattle.java_statement_scopes.proofs.Nodes.{block_is_node, try_is_node}
+use Rattle.java_typed_statements.proofs.Nodes.{finally_is_some}
 use Rattle.java_typed_statements.proofs.Tries.{IsTry, covered_by, try_cases, try_completion, try_tree}
 use Rattle.java_typed_statements.proofs.statement_typing.+typing.Goals as goal
 

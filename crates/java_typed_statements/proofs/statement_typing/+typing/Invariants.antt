@@ -3,11 +3,11 @@ use Rattle.std.proofs.Common.{◌≡◌, ◌+◌, ◌++◌, length, map, drop, t
 use Rattle.java_syntax.specs.StatementTrees.{catch_of, catches, statements, stmt_of}
 use Rattle.java_typed_trees.specs.StatementTrees.{catch_form, statement_of}
 use Rattle.java_statement_rules.specs.Completions.{and_then, one_of}
-use Rattle.java_statement_parts.specs.Scopes.{context_at}
+use Rattle.java_statement_scopes.specs.Scopes.{context_at}
 use Rattle.java_typed_statements.specs.StatementCases.{catches_cases, statements_cases}
 use Rattle.java_typed_statements.specs.StatementCompletions.{catches_completion, statements_completion}
 use Rattle.java_typed_statements.specs.StatementTrees.{catch_forms, catch_trees, statement_trees}
-use Rattle.java_typed_statements.specs.VariableCounts.{catches_count, statements_count}
+use Rattle.java_statement_scopes.specs.VariableCounts.{catches_count, statements_count}
 use Rattle.java_typed_statements.proofs.statement_typing.+typing.Given as goal
 
 abbrev pub invariant-statements-loop-t : goal.invariant-statements-loop-t

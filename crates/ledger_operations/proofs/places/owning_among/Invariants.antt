@@ -1,6 +1,6 @@
 use Rattle.std.proofs.Common.{◌≡◌, drop}
 use Rattle.std.specs.Prelude.{filter, slice_get}
-use Rattle.java_control.specs.Owned.{is_owning}
+use Rattle.control_actions.specs.Owned.{is_owning}
 use Rattle.ledger_operations.proofs.places.owning_among.Given as goal
 
 -- what stands at the place stands at `left` among the owning fields that are still to come

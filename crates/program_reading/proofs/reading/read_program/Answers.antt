@@ -3,13 +3,13 @@ use Rattle.std.proofs.Common.{◌≡◌, ◌∙◌, map, ℕ, List, Bor, Result,
 use Rattle.rlc_base.specs.declared.faults.Stop.{Stop}
 use Rattle.java_syntax.specs.declared.declaration_trees.Unit as tree
 use Rattle.program_model.specs.declared.program.Program.{Program}
-use Rattle.must_call_types.specs.WellFormed.{IsWellFormed}
-use Rattle.signature_rules.specs.RulePasses.{HasNoRuleCase}
-use Rattle.program_reading.specs.Fronts.{IsFront}
+use Rattle.signed_programs.specs.WellFormed.{IsWellFormed}
+use Rattle.signed_programs.specs.RulePasses.{HasNoRuleCase}
+use Rattle.command_trees.specs.Fronts.{IsFront}
 use Rattle.program_reading.specs.Programs.{Input, IsProgram, IsProgramStop, by_files, by_signing, by_typing}
-use Rattle.program_reading.specs.SignedPrograms.{HasListedFields, IsAnnotated, IsSigningStop}
+use Rattle.signed_programs.specs.SignedPrograms.{HasListedFields, IsAnnotated, IsSigningStop}
 use Rattle.program_reading.specs.TypedPrograms.{IsTyped}
-use Rattle.program_reading.proofs.Results.{if_err, if_ok}
+use Rattle.command_trees.proofs.Results.{if_err, if_ok}
 use Rattle.program_reading.proofs.reading.read_program.Goals as goal
 
 moved : (words texts : List (List ℕ)) (sections sections' sources sources' : List tree.Unit) → sections' ≡ sections → sources' ≡ sources → IsFront words texts sections sources

@@ -1,7 +1,8 @@
 -- What holds of the table holds of it with its bodies, and the first that refuses stops it.
 use Rattle.program_reading.specs.TypedPrograms.{IsTypingStop, by_table, by_types}
 use Rattle.program_elaboration.specs.Elaborations.{IsElaborationStop}
-use Rattle.program_reading.proofs.Results.{if_err, passed_on}
+use Rattle.command_trees.proofs.Results.{if_err}
+use Rattle.signed_programs.proofs.Results.{passed_on}
 use Rattle.program_reading.proofs.TypedTables.{parameters_if, typed_if}
 use Rattle.program_reading.proofs.typing.typed.Goals as goal
 

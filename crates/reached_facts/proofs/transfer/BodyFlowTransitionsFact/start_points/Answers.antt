@@ -2,7 +2,7 @@
 use Rattle.std.proofs.Common.{List, subst, sym}
 use Rattle.fact_search.specs.Turns.{AreStarts}
 use Rattle.java_cfg.specs.Contents.{arcs_of}
-use Rattle.java_control.specs.declared.fact.Fact.{Fact}
+use Rattle.control_actions.specs.declared.fact.Fact.{Fact}
 use Rattle.reached_pairs.specs.Additions.{points_in}
 use Rattle.reached_pairs.specs.declared.visit.Point.{Point}
 use Rattle.reached_facts.specs.Steps.{Begins, Leads}

@@ -6,7 +6,7 @@ use Rattle.fact_search.specs.Turns.{AreSteps}
 use Rattle.fact_search.specs.Walks.{IsWalk}
 use Rattle.java_cfg.specs.Contents.{arcs_of}
 use Rattle.java_cfg.specs.declared.arc.Arc.{Arc}
-use Rattle.java_control.specs.declared.fact.Fact.{Fact}
+use Rattle.control_actions.specs.declared.fact.Fact.{Fact}
 use Rattle.reached_pairs.specs.Additions.{points_in}
 use Rattle.reached_pairs.specs.declared.visit.Point.{Point}
 use Rattle.body_origins.specs.Nodes.{row_in}

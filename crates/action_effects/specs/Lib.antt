@@ -1,0 +1,5 @@
+pub mod Scopes
+pub mod Calls
+pub mod Sources
+pub mod Exceptions
+pub mod Leaving

@@ -1,0 +1,3 @@
+mod FileNames
+mod InputNumbers
+pub mod Results

@@ -1,0 +1,3 @@
+pub mod Inputs
+pub mod Fronts
+pub use Rattle.file_numbers.specs.Numbering

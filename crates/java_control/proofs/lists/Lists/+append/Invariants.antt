@@ -1,4 +1,0 @@
-use Rattle.java_control.proofs.lists.Lists.+append.Given as goal
-
-abbrev pub decreases-append : goal.decreases-append
-decreases-append l = l.front

@@ -1,4 +1,0 @@
-use Rattle.java_control.proofs.lists.Lists.+skip.Given as goal
-
-abbrev pub decreases-skip : goal.decreases-skip
-decreases-skip l = l.count

@@ -1,0 +1,3 @@
+pub mod TokenActions
+pub mod ExpressionActions
+pub mod AnnotationActions

@@ -1,0 +1,4 @@
+pub mod Nodes
+pub mod Operators
+pub mod Parts
+pub mod Closed

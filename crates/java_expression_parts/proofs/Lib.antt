@@ -1,0 +1,4 @@
+pub mod ArgumentLaws
+pub mod ContextLaws
+pub mod Nodes
+pub mod Whole

@@ -1,0 +1,3 @@
+pub mod NestedTrees
+pub mod Outcomes
+pub mod Lists

@@ -1,0 +1,1 @@
+pub use Rattle.java_operator_rules.proofs.RuleLaws

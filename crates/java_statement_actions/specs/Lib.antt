@@ -1,0 +1,2 @@
+pub mod StatementActions
+pub mod DeclarationActions

@@ -1,0 +1,132 @@
+ghost use Rattle.std.specs.Prelude.{◌≡◌, map};
+ghost use Rattle.java_syntax.specs.ExpressionTrees.{expr_of};
+ghost use Rattle.java_syntax.specs.AnnotationTrees as annotation;
+ghost use Rattle.java_syntax.specs.AnnotationTrees.{anno_of, anno_value_of, argument_of, modifier_of};
+ghost use Rattle.java_nested_trees.specs.NestedTrees.{nested_of, arguments_in, anno_values_in};
+ghost use Rattle.java_nested_trees.specs.Outcomes.{Gives};
+ghost use Rattle.java_statement_nodes.specs.Parts as parts;
+
+use java_nested_trees::{BuildFail, Nested, deeper, place_of};
+use java_syntax::{Anno, AnnoArgument, AnnoValue, Expr, Modifier, Name};
+use rlc_base::Pos;
+
+fn annotation_tree(name: Name, arguments: Vec<AnnoArgument>, pos: Pos) -> Anno
+    ensures { annotation.anno_of result ≡ annotation.Annotation name (annotation.arguments (map annotation.argument_of arguments.items)) pos }
+{
+    Anno {
+        name,
+        arguments,
+        pos,
+    }
+}
+
+/// An annotation (JLS 9.7), one level deeper than its values.
+///
+/// # Errors
+///
+/// `TooDeep` where it would be deeper than the limit.
+pub fn annotation(
+    limit: u32,
+    name: Name,
+    arguments: Nested<Vec<AnnoArgument>>,
+    pos: Pos,
+) -> Result<Nested<Anno>, BuildFail>
+    ensures { Gives (nested_of anno_of) result (parts.annotation_node limit name (nested_of arguments_in arguments) pos) }
+{
+    let depth = deeper(limit, arguments.depth, pos)?;
+    let tree = annotation_tree(name, arguments.tree, pos);
+    Ok(Nested { tree, depth })
+}
+
+/// An argument of an annotation, with its name where one is written.
+pub fn argument(key: Option<Name>, value: Nested<AnnoValue>) -> Nested<AnnoArgument>
+    ensures { nested_of argument_of result ≡ parts.argument_node key (nested_of anno_value_of value) }
+{
+    Nested {
+        tree: AnnoArgument {
+            key,
+            value: value.tree,
+        },
+        depth: value.depth,
+    }
+}
+
+/// An expression as a value, one level deeper.
+///
+/// # Errors
+///
+/// `TooDeep` where it would be deeper than the limit.
+pub fn expression_value(limit: u32, e: Nested<Expr>) -> Result<Nested<AnnoValue>, BuildFail>
+    ensures { Gives (nested_of anno_value_of) result (parts.expression_value_node limit (nested_of expr_of e)) }
+{
+    let depth = deeper(limit, e.depth, place_of(&e.tree))?;
+    Ok(Nested {
+        tree: AnnoValue::Expression(e.tree),
+        depth,
+    })
+}
+
+/// An annotation as a value, one level deeper.
+///
+/// # Errors
+///
+/// `TooDeep` where it would be deeper than the limit.
+pub fn annotation_as_value(limit: u32, a: Nested<Anno>) -> Result<Nested<AnnoValue>, BuildFail>
+    ensures { Gives (nested_of anno_value_of) result (parts.annotation_value_node limit (nested_of anno_of a)) }
+{
+    let depth = deeper(limit, a.depth, a.tree.pos)?;
+    Ok(Nested {
+        tree: AnnoValue::Annotation(a.tree),
+        depth,
+    })
+}
+
+fn list_tree(values: Vec<AnnoValue>, pos: Pos) -> AnnoValue
+    ensures { annotation.anno_value_of result ≡ annotation.ListValue (annotation.values (map annotation.anno_value_of values.items)) pos }
+{
+    AnnoValue::List { values, pos }
+}
+
+/// Values in braces as one value, one level deeper.
+///
+/// # Errors
+///
+/// `TooDeep` where it would be deeper than the limit.
+pub fn values_as_value(
+    limit: u32,
+    values: Nested<Vec<AnnoValue>>,
+    pos: Pos,
+) -> Result<Nested<AnnoValue>, BuildFail>
+    ensures { Gives (nested_of anno_value_of) result (parts.list_value_node limit (nested_of anno_values_in values) pos) }
+{
+    let depth = deeper(limit, values.depth, pos)?;
+    let tree = list_tree(values.tree, pos);
+    Ok(Nested { tree, depth })
+}
+
+/// An annotation among modifiers.
+pub fn modifier(a: Nested<Anno>) -> Nested<Modifier>
+    ensures { nested_of modifier_of result ≡ parts.modifier_node (nested_of anno_of a) }
+{
+    Nested {
+        tree: Modifier::Annotation(a.tree),
+        depth: a.depth,
+    }
+}
+
+/// A modifier word, which has no level.
+pub fn word(modifier: Modifier) -> Nested<Modifier>
+    ensures { nested_of modifier_of result ≡ parts.word_node (modifier_of modifier) }
+{
+    Nested {
+        tree: modifier,
+        depth: 0,
+    }
+}
+
+/// The place of an annotation.
+pub fn place_of_annotation(annotation: &Anno) -> Pos
+    ensures { result ≡ parts.place_of_annotation (anno_of annotation.now) }
+{
+    annotation.pos
+}

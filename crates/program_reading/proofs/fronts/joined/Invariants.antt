@@ -1,5 +1,0 @@
-use Rattle.std.proofs.Common.{◌≡◌, flat_map}
-use Rattle.program_reading.proofs.fronts.joined.Given as goal
-
-abbrev pub invariant-loop-sections : goal.invariant-loop-sections
-invariant-loop-sections l = l.all.items ≡ flat_map (λ sections. sections.items) l.yielded

@@ -1,5 +1,0 @@
-use Rattle.std.proofs.Common.{length}
-use Rattle.program_reading.proofs.names.+put_kind.Given as goal
-
-abbrev pub decreases-put_kind : goal.decreases-put_kind
-decreases-put_kind l = length l.words.now
