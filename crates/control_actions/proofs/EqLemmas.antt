@@ -32,7 +32,7 @@ use Rattle.program_model.specs.declared.kinds.UnaryOperator.{UnaryOperator}
 use Rattle.program_model.specs.declared.kinds.BinaryOperator.{BinaryOperator}
 use Rattle.program_model.specs.declared.kinds.OperandType.{OperandType}
 use Rattle.std.specs.Prelude.{◌&&◌, ◌==◌}
-use Rattle.std.proofs.lemmas.Bool.{eqb-true}
+use Rattle.std.proofs.lemmas.Bool.{eqb-true, false≢true}
 use Rattle.rlc_base.specs.declared.place.Pos.{Pos}
 use Rattle.rlc_base.specs.contracts.place.PosPartialEq.TheImpl as pos_eq
 use Rattle.program_model.specs.declared.kinds.MethodId.{MethodId}
@@ -71,7 +71,7 @@ exact_vtype (types.Arr a) (types.Arr b) h = search rules
 exact_vtype (types.Obj a) (types.Obj b) h = search rules
 exact_vtype types.Str types.Str h = refl
 exact_vtype types.NullType types.NullType h = refl
-exact_vtype a b h = cc
+exact_vtype a b h = absurd (false≢true h)
 
 pub exact_unary : (a b : UnaryOperator) → (unary_eq.ghosts).eq a b ≡ true → a ≡ b
 exact_unary a b h = same_true unary_type.the_type (search rules) a b h
@@ -91,7 +91,7 @@ exact_place (places.Field a) (places.Field b) h = search rules
 exact_place (places.Temp a) (places.Temp b) h = search rules
 exact_place places.This places.This h = refl
 exact_place places.Super places.Super h = refl
-exact_place a b h = cc
+exact_place a b h = absurd (false≢true h)
 
 pub exact_completion : (a b : Completion) → (completion_eq.ghosts).eq a b ≡ true → a ≡ b
 exact_completion (completions.Break a) (completions.Break a') h = search rules
@@ -99,14 +99,14 @@ exact_completion (completions.Continue a) (completions.Continue a') h = search r
 exact_completion (completions.Return a) (completions.Return a') h = search rules
 exact_completion (completions.ReturnValue a b) (completions.ReturnValue a' b') h = search rules
 exact_completion (completions.Throw a b c) (completions.Throw a' b' c') h = search rules
-exact_completion a b h = cc
+exact_completion a b h = absurd (false≢true h)
 
 pub exact_scope : (a b : Scope) → (scope_eq.ghosts).eq a b ≡ true → a ≡ b
 exact_scope (scopes.Declared a) (scopes.Declared a') h = search rules
 exact_scope (scopes.Variable a) (scopes.Variable a') h = search rules
 exact_scope (scopes.Temp a) (scopes.Temp a') h = search rules
 exact_scope (scopes.TempsAbove a) (scopes.TempsAbove a') h = search rules
-exact_scope a b h = cc
+exact_scope a b h = absurd (false≢true h)
 
 pub exact_clause : (a b : ClauseId) → (clause_eq.ghosts).eq a b ≡ true → a ≡ b
 exact_clause a b h = search rules
@@ -116,7 +116,7 @@ exact_plain (plain.Literal a) (plain.Literal a') h = search rules
 exact_plain (plain.Default a) (plain.Default a') h = search rules
 exact_plain (plain.StaticField a) (plain.StaticField a') h = search rules
 exact_plain (plain.LibraryConstant a) (plain.LibraryConstant a') h = search rules
-exact_plain a b h = cc
+exact_plain a b h = absurd (false≢true h)
 
 pub exact_operator : (a b : Operator) → (operator_eq.ghosts).eq a b ≡ true → a ≡ b
 exact_operator (operators.Unary a b) (operators.Unary a' b') h = let part0 = and_parts ((unary_eq.ghosts).eq a a') ((vtype_eq.ghosts).eq b b') h in (λ i. operators.Unary (exact_unary a a' part0.0 i) (exact_vtype b b' part0.1 i))
@@ -126,9 +126,9 @@ exact_operator (operators.Convert a) (operators.Convert a') h = (λ i. operators
 exact_operator operators.Length operators.Length h = refl
 exact_operator operators.Element operators.Element h = refl
 exact_operator operators.StoreElement operators.StoreElement h = refl
-exact_operator (operators.StoreStatic a) (operators.StoreStatic a') h = search (rules, exact_unary, exact_binary, exact_operands)
+exact_operator (operators.StoreStatic a) (operators.StoreStatic a') h = search rules
 exact_operator (operators.NewArray a) (operators.NewArray a') h = (λ i. operators.NewArray (exact_vtype a a' h i))
-exact_operator a b h = cc
+exact_operator a b h = absurd (false≢true h)
 
 pub exact_action : (a b : Action) → (action_eq.ghosts).eq a b ≡ true → a ≡ b
 exact_action actions.Skip actions.Skip h = refl
@@ -138,45 +138,45 @@ exact_action (actions.Plain a b) (actions.Plain a' b') h = let part0 = and_parts
 exact_action (actions.Drop a) (actions.Drop a') h = (λ i. actions.Drop (exact_scope a a' h i))
 exact_action (actions.Settle a b) (actions.Settle a' b') h = let part0 = and_parts ((a == a')) ((completion_eq.ghosts).eq b b') h in (λ i. actions.Settle (eqb-true a a' part0.0 i) (exact_completion b b' part0.1 i))
 exact_action (actions.Enter a b c d) (actions.Enter a' b' c' d') h = search (rules, exact_clause)
-exact_action (actions.Test a) (actions.Test a') h = search (rules, exact_place, exact_plain, exact_scope, exact_completion, exact_operator, exact_form)
+exact_action (actions.Test a) (actions.Test a') h = search rules
 exact_action (actions.Op a b c) (actions.Op a' b' c') h = let part0 = and_parts ((operator_eq.ghosts).eq a a') ((b == b') && ((c == c'))) h in let part1 = and_parts ((b == b')) ((c == c')) part0.1 in (λ i. actions.Op (exact_operator a a' part0.0 i) (eqb-true b b' part1.0 i) (eqb-true c c' part1.1 i))
-exact_action (actions.Get a b c) (actions.Get a' b' c') h = search (rules, exact_place, exact_plain, exact_scope, exact_completion, exact_operator, exact_form)
-exact_action (actions.Put a b c) (actions.Put a' b' c') h = search (rules, exact_place, exact_plain, exact_scope, exact_completion, exact_operator, exact_form)
+exact_action (actions.Get a b c) (actions.Get a' b' c') h = search rules
+exact_action (actions.Put a b c) (actions.Put a' b' c') h = search rules
 exact_action (actions.Cast a b) (actions.Cast a' b') h = let part0 = and_parts ((vtype_eq.ghosts).eq a a') ((b == b')) h in (λ i. actions.Cast (exact_vtype a a' part0.0 i) (eqb-true b b' part0.1 i))
-exact_action (actions.PutOwn a b) (actions.PutOwn a' b') h = search (rules, exact_place, exact_plain, exact_scope, exact_completion, exact_operator, exact_form)
+exact_action (actions.PutOwn a b) (actions.PutOwn a' b') h = search rules
 exact_action (actions.Call a b c d) (actions.Call a' b' c' d') h = let part0 = and_parts ((method_eq.ghosts).eq a a') ((b == b') && ((c == c') && ((form_eq.ghosts).eq d d'))) h in let part1 = and_parts ((b == b')) ((c == c') && ((form_eq.ghosts).eq d d')) part0.1 in let part2 = and_parts ((c == c')) ((form_eq.ghosts).eq d d') part1.1 in (λ i. actions.Call (exact_method a a' part0.0 i) (eqb-true b b' part1.0 i) (eqb-true c c' part2.0 i) (exact_form d d' part2.1 i))
-exact_action (actions.New a b c) (actions.New a' b' c') h = search (rules, exact_place, exact_plain, exact_scope, exact_completion, exact_operator, exact_form)
-exact_action (actions.Super a b c) (actions.Super a' b' c') h = search (rules, exact_place, exact_plain, exact_scope, exact_completion, exact_operator, exact_form)
-exact_action (actions.Raise a b) (actions.Raise a' b') h = search (rules, exact_place, exact_plain, exact_scope, exact_completion, exact_operator, exact_form)
+exact_action (actions.New a b c) (actions.New a' b' c') h = search rules
+exact_action (actions.Super a b c) (actions.Super a' b' c') h = search rules
+exact_action (actions.Raise a b) (actions.Raise a' b') h = search rules
 exact_action (actions.End a) (actions.End a') h = (λ i. actions.End (exact_completion a a' h i))
-exact_action a b h = cc
+exact_action a b h = absurd (false≢true h)
 
 pub exact_condition : (a b : Condition) → (condition_eq.ghosts).eq a b ≡ true → a ≡ b
 exact_condition (conditions.Of a) (conditions.Of a') h = search rules
 exact_condition (conditions.Absent a) (conditions.Absent a') h = search rules
-exact_condition a b h = cc
+exact_condition a b h = absurd (false≢true h)
 
 pub exact_closing : (a b : Closing) → (closing_eq.ghosts).eq a b ≡ true → a ≡ b
 exact_closing a b h = search rules
 
 pub exact_item : (a b : Item) → (item_eq.ghosts).eq a b ≡ true → a ≡ b
-exact_item (items.Do a b) (items.Do a' b') h = search (rules, exact_action, exact_condition, exact_scope, exact_closing, exact_completion)
-exact_item (items.Ev a b) (items.Ev a' b') h = search (rules, exact_action, exact_condition, exact_scope, exact_closing, exact_completion)
+exact_item (items.Do a b) (items.Do a' b') h = search rules
+exact_item (items.Ev a b) (items.Ev a' b') h = search rules
 exact_item (items.Act a b) (items.Act a' b') h = let part0 = and_parts ((action_eq.ghosts).eq a a') ((pos_eq.ghosts).eq b b') h in (λ i. items.Act (exact_action a a' part0.0 i) (exact_pos b b' part0.1 i))
 exact_item (items.Cond a b c d) (items.Cond a' b' c' d') h = let part0 = and_parts ((condition_eq.ghosts).eq a a') ((b == b') && ((c == c') && ((d == d')))) h in let part1 = and_parts ((b == b')) ((c == c') && ((d == d'))) part0.1 in let part2 = and_parts ((c == c')) ((d == d')) part1.1 in (λ i. items.Cond (exact_condition a a' part0.0 i) (eqb-true b b' part1.0 i) (eqb-true c c' part2.0 i) (eqb-true d d' part2.1 i))
-exact_item (items.NullFork a b c d) (items.NullFork a' b' c' d') h = search (rules, exact_action, exact_condition, exact_scope, exact_closing, exact_completion)
-exact_item (items.BoolFork a b c d) (items.BoolFork a' b' c' d') h = search (rules, exact_action, exact_condition, exact_scope, exact_closing, exact_completion)
-exact_item (items.LoopEnd a b) (items.LoopEnd a' b') h = search (rules, exact_action, exact_condition, exact_scope, exact_closing, exact_completion)
-exact_item (items.For a b) (items.For a' b') h = search (rules, exact_action, exact_condition, exact_scope, exact_closing, exact_completion)
+exact_item (items.NullFork a b c d) (items.NullFork a' b' c' d') h = search rules
+exact_item (items.BoolFork a b c d) (items.BoolFork a' b' c' d') h = search rules
+exact_item (items.LoopEnd a b) (items.LoopEnd a' b') h = search rules
+exact_item (items.For a b) (items.For a' b') h = search rules
 exact_item (items.Leave a b) (items.Leave a' b') h = let part0 = and_parts ((scope_eq.ghosts).eq a a') ((pos_eq.ghosts).eq b b') h in (λ i. items.Leave (exact_scope a a' part0.0 i) (exact_pos b b' part0.1 i))
-exact_item (items.Catch a b) (items.Catch a' b') h = search (rules, exact_action, exact_condition, exact_scope, exact_closing, exact_completion)
-exact_item (items.Fin a b) (items.Fin a' b') h = search (rules, exact_action, exact_condition, exact_scope, exact_closing, exact_completion)
+exact_item (items.Catch a b) (items.Catch a' b') h = search rules
+exact_item (items.Fin a b) (items.Fin a' b') h = search rules
 exact_item (items.Close a b) (items.Close a' b') h = let part0 = and_parts ((closing_eq.ghosts).eq a a') ((b == b')) h in (λ i. items.Close (exact_closing a a' part0.0 i) (eqb-true b b' part0.1 i))
 exact_item (items.Finish a b c) (items.Finish a' b' c') h = let part0 = and_parts ((completion_eq.ghosts).eq a a') ((b == b') && ((stmt_eq.ghosts).eq c c')) h in let part1 = and_parts ((b == b')) ((stmt_eq.ghosts).eq c c') part0.1 in (λ i. items.Finish (exact_completion a a' part0.0 i) (eqb-true b b' part1.0 i) (exact_stmt c c' part1.1 i))
 exact_item (items.Supp a b c) (items.Supp a' b' c') h = let part0 = and_parts ((completion_eq.ghosts).eq a a') ((b == b') && ((stmt_eq.ghosts).eq c c')) h in let part1 = and_parts ((b == b')) ((stmt_eq.ghosts).eq c c') part0.1 in (λ i. items.Supp (exact_completion a a' part0.0 i) (eqb-true b b' part1.0 i) (exact_stmt c c' part1.1 i))
 exact_item (items.Out a) (items.Out a') h = (λ i. items.Out (exact_completion a a' h i))
 exact_item items.Ended items.Ended h = refl
-exact_item a b h = cc
+exact_item a b h = absurd (false≢true h)
 
 pub exact : (a b : Cell) → (cell_eq.ghosts).eq a b ≡ true → a ≡ b
 exact a b h = let parts = and_parts ((item_eq.ghosts).eq a.item b.item) (a.tail == b.tail) h in (λ i. record { item = exact_item a.item b.item parts.0 i; tail = eqb-true a.tail b.tail parts.1 i })

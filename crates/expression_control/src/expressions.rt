@@ -397,6 +397,83 @@ fn compute_front(
     Ok(plain(lists, compute(alloc, operator, operands, depth, pos)?))
 }
 
+// An operator of one operand.
+fn computed_of_one(
+    alloc: Global,
+    lists: &Lists,
+    operator: Operator,
+    x: ExprId,
+    depth: u32,
+    pos: Pos,
+) -> Result<Front, NoMemory>
+    ensures front { IfOk result (λ f. front_in lists.now.cells.keys f ≡ computes operator (x ∷ []) depth pos) }
+    ensures highest { IfOk result (λ f. highest_front f ≡ 0) }
+{
+    compute_front(alloc, lists, operator, &[x], depth, pos)
+}
+
+// An operator of two operands.
+fn computed_of_two(
+    alloc: Global,
+    lists: &Lists,
+    operator: Operator,
+    x: ExprId,
+    y: ExprId,
+    depth: u32,
+    pos: Pos,
+) -> Result<Front, NoMemory>
+    ensures front { IfOk result (λ f. front_in lists.now.cells.keys f ≡ computes operator (x ∷ y ∷ []) depth pos) }
+    ensures highest { IfOk result (λ f. highest_front f ≡ 0) }
+{
+    compute_front(alloc, lists, operator, &[x, y], depth, pos)
+}
+
+// The value of a place.
+fn copy_front(
+    alloc: Global,
+    lists: &Lists,
+    from: Place,
+    d: u32,
+    pos: Pos,
+) -> Result<Front, NoMemory>
+    ensures front { IfOk result (λ f. front_in lists.now.cells.keys f ≡ Act (actions.Copy (places.Temp d) from) pos ∷ []) }
+    ensures highest { IfOk result (λ f. highest_front f ≡ 0) }
+{
+    act_front(alloc, lists, Action::Copy(Place::Temp(d), from), pos)
+}
+
+// An operator assignment, as a front.
+fn updated_front(
+    alloc: Global,
+    lists: &Lists,
+    body: &Body,
+    a: OperatorAssignment,
+    vtype: Option<VType>,
+    d: u32,
+    pos: Pos,
+) -> Result<Front, NoMemory>
+    ensures front { IfOk result (λ f. front_in lists.now.cells.keys f ≡ update_front body.now a vtype d pos) }
+    ensures highest { IfOk result (λ f. highest_front f ≡ 0) }
+{
+    Ok(plain(lists, update(alloc, body, a, vtype, d, pos)?))
+}
+
+// A postfix step, as a front.
+fn stepped_front(
+    alloc: Global,
+    lists: &Lists,
+    body: &Body,
+    a: OperatorAssignment,
+    vtype: Option<VType>,
+    d: u32,
+    pos: Pos,
+) -> Result<Front, NoMemory>
+    ensures front { IfOk result (λ f. front_in lists.now.cells.keys f ≡ postfix_front body.now a vtype d pos) }
+    ensures highest { IfOk result (λ f. highest_front f ≡ 0) }
+{
+    Ok(plain(lists, postfix(alloc, body, a, vtype, d, pos)?))
+}
+
 // A condition that stands where a value is wanted.
 fn tested(alloc: Global, lists: &mut Lists, e: ExprId, d: u32, pos: Pos) -> Result<Front, NoMemory>
     ensures front { IfOk result (λ f. front_in lists.new.cells.keys f ≡ tested_front e d pos) }
@@ -446,7 +523,7 @@ fn unary_front(
         UnaryOperator::Not => tested(alloc, lists, e, d, pos),
         _ => {
             let computed = Operator::Unary(operator, type_or_null(vtype));
-            compute_front(alloc, lists, computed, &[x], d, pos)
+            computed_of_one(alloc, lists, computed, x, d, pos)
         }
     }
 }
@@ -543,12 +620,12 @@ pub fn expression_front(
     ensures kept { Keeps lists.old.cells.keys lists.new.cells.keys }
 {
     use program_model::ExpressionKind as Kind;
-    let (vtype, pos, temp) = (found.vtype, found.pos, Place::Temp(d));
+    let (vtype, pos) = (found.vtype, found.pos);
     let t = type_or_null(vtype);
     match &found.kind {
         Kind::Literal(l) => plain_front(alloc, lists, PlainValue::Literal(*l), d, pos),
-        Kind::Local(x) => act_front(alloc, lists, Action::Copy(temp, Place::Var(*x)), pos),
-        Kind::This(_) => act_front(alloc, lists, Action::Copy(temp, Place::This), pos),
+        Kind::Local(x) => copy_front(alloc, lists, Place::Var(*x), d, pos),
+        Kind::This(_) => copy_front(alloc, lists, Place::This, d, pos),
         Kind::Field(x, f) => field_read(alloc, lists, p, body, *x, *f, d, pos),
         Kind::StaticField(f) => plain_front(alloc, lists, PlainValue::StaticField(*f), d, pos),
         Kind::LibraryConstant(m) => plain_front(
@@ -561,23 +638,23 @@ pub fn expression_front(
         Kind::Unary(o, x) => unary_front(alloc, lists, *o, *x, e, vtype, d, pos),
         Kind::Binary(x) => binary_front(alloc, lists, body, *x, e, vtype, d, pos),
         Kind::Conditional(c, x, y) => choice(alloc, lists, *c, *x, *y, d),
-        Kind::InstanceOf(x, of) => compute_front(
+        Kind::InstanceOf(x, of) => computed_of_one(
             alloc,
             lists,
             Operator::InstanceOf(*of),
-            &[*x],
+            *x,
             d,
             pos,
         ),
-        Kind::PrimitiveCast(x) => compute_front(alloc, lists, Operator::Convert(t), &[*x], d, pos),
+        Kind::PrimitiveCast(x) => computed_of_one(alloc, lists, Operator::Convert(t), *x, d, pos),
         Kind::ReferenceCast(x) => cast_front(alloc, lists, *x, t, d, pos),
         Kind::Assignment(to, x) => assignment(alloc, lists, p, body, *to, *x, d, pos),
-        Kind::OperatorAssignment(a) => Ok(plain(lists, update(alloc, body, *a, vtype, d, pos)?)),
-        Kind::PostfixStep(a) => Ok(plain(lists, postfix(alloc, body, *a, vtype, d, pos)?)),
+        Kind::OperatorAssignment(a) => updated_front(alloc, lists, body, *a, vtype, d, pos),
+        Kind::PostfixStep(a) => stepped_front(alloc, lists, body, *a, vtype, d, pos),
         Kind::Call(c) => call(alloc, lists, c, d, pos),
         Kind::NewObject(n) => new_object(alloc, lists, n, d, pos),
-        Kind::NewArray(x) => compute_front(alloc, lists, Operator::NewArray(t), &[*x], d, pos),
-        Kind::Element(a, i) => compute_front(alloc, lists, Operator::Element, &[*a, *i], d, pos),
-        Kind::Length(a) => compute_front(alloc, lists, Operator::Length, &[*a], d, pos),
+        Kind::NewArray(x) => computed_of_one(alloc, lists, Operator::NewArray(t), *x, d, pos),
+        Kind::Element(a, i) => computed_of_two(alloc, lists, Operator::Element, *a, *i, d, pos),
+        Kind::Length(a) => computed_of_one(alloc, lists, Operator::Length, *a, d, pos),
     }
 }

@@ -45,6 +45,23 @@ fn add_throw(
     put(changes, change)
 }
 
+// Adds the ways by which an action throws classes.
+fn add_throws(
+    alloc: Global,
+    changes: &mut Vec<Change>,
+    action: Action,
+    classes: &[ClassId],
+    pos: Pos,
+) -> Result<(), NoMemory>
+    ensures means { OnOk result (map bare_change changes.new.items ≡ map bare_change changes.old.items ++ map (throw_change action pos) classes.now) }
+    ensures small { OnOk result (highest_changes changes.new.items ≡ highest_changes changes.old.items) }
+{
+    for class in classes {
+        add_throw(alloc, changes, action, *class, pos)?;
+    }
+    Ok(())
+}
+
 /// The ways of an action: on, and by each exception that it throws.
 pub fn action_changes(
     alloc: Global,
@@ -57,8 +74,6 @@ pub fn action_changes(
 {
     let mut changes = goes_on(alloc, action)?;
     let classes = exceptions_of(alloc, p, action)?;
-    for class in &classes {
-        add_throw(alloc, &mut changes, action, *class, pos)?;
-    }
+    add_throws(alloc, &mut changes, action, &classes, pos)?;
     Ok(changes)
 }

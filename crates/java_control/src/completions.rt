@@ -1,13 +1,14 @@
 //! What a completion on its way out becomes.
 
 ghost use Rattle.std.specs.Prelude.{◌≡◌, ◌+◌, ◌≤◌, ◌++◌, ◌∷◌, [], map, length, max, option_map, IfOk, OnOk};
-ghost use Rattle.java_control.specs.Changes.{bare_change, front_in, highest_changes, highest_front, seen};
+ghost use Rattle.java_control.specs.Changes.{bare_change, change, front_in, highest_changes, highest_front, seen};
 ghost use Rattle.java_control.specs.Becoming.{alone, catch_change, catch_changes, completion_becomes, entry, loop_change, moves, settled, supp_change};
 ghost use Rattle.java_control.specs.Completions.{at_depth};
 ghost use Rattle.java_control.specs.Exceptions.{clauses_of_kind};
-ghost use Rattle.control_actions.specs.Remaining.{Out, Supp};
+ghost use Rattle.control_actions.specs.Remaining.{Do, Finish, Out, Supp};
 ghost use Rattle.java_control.specs.Statements.{close_fork, close_front};
 ghost use Rattle.control_actions.specs.declared.action.Action.TheVariants as actions;
+ghost use Rattle.control_actions.specs.declared.action.Edge.TheVariants as edges;
 ghost use Rattle.control_actions.specs.declared.item.Item.TheVariants as items;
 ghost use Rattle.control_actions.specs.declared.place.Place.TheVariants as places;
 ghost use Rattle.control_actions.specs.Tables.{Keeps, bare, highest, highest_of, view_in};
@@ -144,6 +145,37 @@ fn add_passage(alloc: Global, changes: &mut Vec<Change>, thrown: Completion) -> 
     put(changes, change)
 }
 
+// Adds the ways of an exception of class `t` that meets catch clauses.
+fn add_caught(
+    alloc: Global,
+    changes: &mut Vec<Change>,
+    p: &Program,
+    body: &Body,
+    s: StmtId,
+    clauses: &[CatchClause],
+    b: u32,
+    d: u32,
+    t: ClassId,
+    pos: Pos,
+) -> Result<(), NoMemory>
+    ensures means { OnOk result (map bare_change changes.new.items ≡ map bare_change changes.old.items ++ catch_changes p.now body.now s 0 clauses.now b d t pos) }
+    ensures small { OnOk result (highest_changes changes.new.items ≡ highest_changes changes.old.items) }
+{
+    for (index, clause) in clauses.iter().enumerate() {
+        let id = ClauseId {
+            statement: s,
+            index,
+        };
+        if takes_wholly(p, t, clause) {
+            return add_entry(alloc, changes, body, id, clause, b, d);
+        }
+        if may_take(p, t, clause) {
+            add_entry(alloc, changes, body, id, clause, b, d)?;
+        }
+    }
+    add_passage(alloc, changes, Completion::Throw(d, t, pos))
+}
+
 // An exception of class `t` meets catch clauses.
 fn caught(
     alloc: Global,
@@ -160,20 +192,7 @@ fn caught(
     ensures small { IfOk result (λ v. highest_changes v.items ≡ 0) }
 {
     let mut changes = Vec::new(alloc);
-    for (index, clause) in clauses.iter().enumerate() {
-        let id = ClauseId {
-            statement: s,
-            index,
-        };
-        if takes_wholly(p, t, clause) {
-            add_entry(alloc, &mut changes, body, id, clause, b, d)?;
-            return Ok(changes);
-        }
-        if may_take(p, t, clause) {
-            add_entry(alloc, &mut changes, body, id, clause, b, d)?;
-        }
-    }
-    add_passage(alloc, &mut changes, Completion::Throw(d, t, pos))?;
+    add_caught(alloc, &mut changes, p, body, s, clauses, b, d, t, pos)?;
     Ok(changes)
 }
 
@@ -269,6 +288,32 @@ fn at_close(
     one_way(alloc, Action::Settle(b, c), Edge::Go, 2, front)
 }
 
+// A completion that meets the end of a scope empties its places.
+fn at_leave(alloc: Global, c: Completion, scope: Scope) -> Result<Vec<Change>, NoMemory>
+    ensures means { IfOk result (λ v. map bare_change v.items ≡ change (actions.Drop scope) edges.Go 2 (Out c ∷ []) ∷ []) }
+    ensures small { IfOk result (λ v. highest_changes v.items ≡ 0) }
+{
+    let front = flat(alloc, &[Item::Out(c)])?;
+    one_way(alloc, Action::Drop(scope), Edge::Go, 2, front)
+}
+
+// A completion that meets a `finally` block waits until the block has run.
+fn at_finally(alloc: Global, c: Completion, f: StmtId, b: u32) -> Result<Vec<Change>, NoMemory>
+    ensures means { IfOk result (λ v. map bare_change v.items ≡ settled b c (Do f (b + 1) ∷ Finish (at_depth c b) b f ∷ [])) }
+    ensures small { IfOk result (λ v. highest_changes v.items ≡ 0) }
+{
+    let block = Item::Do(f, deeper(b, 1)?);
+    settles(alloc, b, c, &[block, Item::Finish(at_depth(c, b), b, f)])
+}
+
+// A completion takes the place of the one that waited for a `finally` block.
+fn at_finish(alloc: Global, c: Completion, b: u32) -> Result<Vec<Change>, NoMemory>
+    ensures means { IfOk result (λ v. map bare_change v.items ≡ settled b c (Out (at_depth c b) ∷ [])) }
+    ensures small { IfOk result (λ v. highest_changes v.items ≡ 0) }
+{
+    settles(alloc, b, c, &[Item::Out(at_depth(c, b))])
+}
+
 /// What a completion becomes, by the item behind it.
 #[tactic(auto, using(expression_control::proofs::FlatLemmas::changes_bare))]
 pub fn completion_changes(
@@ -286,20 +331,11 @@ pub fn completion_changes(
     match second {
         None => alone(alloc, c),
         Some(Item::LoopEnd(w, d)) => at_loop(alloc, c, w, d),
-        Some(Item::Leave(x, _)) => {
-            let front = flat(alloc, &[Item::Out(c)])?;
-            one_way(alloc, Action::Drop(x), Edge::Go, 2, front)
-        }
+        Some(Item::Leave(x, _)) => at_leave(alloc, c, x),
         Some(Item::Catch(s, b)) => at_catch(alloc, p, body, c, s, b),
-        Some(Item::Fin(f, b)) => {
-            let items = [
-                Item::Do(f, deeper(b, 1)?),
-                Item::Finish(at_depth(c, b), b, f),
-            ];
-            settles(alloc, b, c, &items)
-        }
+        Some(Item::Fin(f, b)) => at_finally(alloc, c, f, b),
         Some(Item::Close(r, b)) => at_close(alloc, lists, c, r, b),
-        Some(Item::Finish(_, b, _)) => settles(alloc, b, c, &[Item::Out(at_depth(c, b))]),
+        Some(Item::Finish(_, b, _)) => at_finish(alloc, c, b),
         Some(Item::Supp(waiting, b, _)) => at_supp(alloc, waiting, c, b),
         _ => moves(alloc, &[Item::Out(c)]),
     }

@@ -2,7 +2,7 @@
 
 ghost use Rattle.std.specs.Prelude.{◌≡◌, ◌≤◌, ◌++◌, ◌∷◌, [], map, flat_map, length, IfOk};
 ghost use Rattle.java_control.specs.Changes.{front_in, highest_front};
-ghost use Rattle.control_actions.specs.Remaining.{Act, Cond, Do, Ev, For, Leave, one};
+ghost use Rattle.control_actions.specs.Remaining.{Act, Cond, Do, Ev, For, Leave, LoopEnd, Out, one};
 ghost use Rattle.control_actions.specs.declared.action.Action.TheVariants as actions;
 ghost use Rattle.control_actions.specs.declared.action.Scope.TheVariants as scopes;
 ghost use Rattle.program_model.specs.Lookups.{statement_at, type_at};
@@ -153,20 +153,21 @@ fn for_items(
     Ok(items)
 }
 
-fn return_items(
+fn return_front(
     alloc: Global,
+    lists: &Lists,
     value: Option<ExprId>,
     d: u32,
     pos: Pos,
-) -> Result<Vec<Item>, NoMemory>
-    ensures means { IfOk result (λ v. map bare v.items ≡ return_front value d pos) }
-    ensures small { IfOk result (λ v. highest_of v.items ≡ 0) }
+) -> Result<Front, NoMemory>
+    ensures front { IfOk result (λ f. front_in lists.now.cells.keys f ≡ return_front value d pos) }
+    ensures highest { IfOk result (λ f. highest_front f ≡ 0) }
 {
     match value {
-        None => items_of(alloc, &[Item::Out(Completion::Return(pos))]),
+        None => items_front(alloc, lists, &[Item::Out(Completion::Return(pos))]),
         Some(e) => {
             let completion = Completion::ReturnValue(d, pos);
-            items_of(alloc, &[Item::Ev(e, d), Item::Out(completion)])
+            items_front(alloc, lists, &[Item::Ev(e, d), Item::Out(completion)])
         }
     }
 }
@@ -351,18 +352,118 @@ fn turn_front(
     front_of(alloc, lists, &[Item::Cond(c, d, p, q)])
 }
 
-fn throw_items(
+fn throw_front(
     alloc: Global,
+    lists: &Lists,
     body: &Body,
     e: ExprId,
     d: u32,
     pos: Pos,
-) -> Result<Vec<Item>, NoMemory>
-    ensures means { IfOk result (λ v. map bare v.items ≡ Ev e d ∷ Act (actions.Raise d (class_of_type (type_at body.now e))) pos ∷ []) }
-    ensures small { IfOk result (λ v. highest_of v.items ≡ 0) }
+) -> Result<Front, NoMemory>
+    ensures front { IfOk result (λ f. front_in lists.now.cells.keys f ≡ Ev e d ∷ Act (actions.Raise d (class_of_type (type_at body.now e))) pos ∷ []) }
+    ensures highest { IfOk result (λ f. highest_front f ≡ 0) }
 {
     let raise = Action::Raise(d, class_of_type(body.type_of(e)));
-    items_of(alloc, &[Item::Ev(e, d), Item::Act(raise, pos)])
+    items_front(alloc, lists, &[Item::Ev(e, d), Item::Act(raise, pos)])
+}
+
+// The fronts of statements whose items hold no lists.
+
+fn block_front(
+    alloc: Global,
+    lists: &Lists,
+    s: StmtId,
+    statements: &[StmtId],
+    d: u32,
+    pos: Pos,
+) -> Result<Front, NoMemory>
+    ensures front { IfOk result (λ f. front_in lists.now.cells.keys f ≡ map (λ x. Do x d) statements.now ++ Leave (scopes.Declared s) pos ∷ []) }
+    ensures highest { IfOk result (λ f. highest_front f ≡ 0) }
+{
+    Ok(plain(lists, block_items(alloc, s, statements, d, pos)?))
+}
+
+fn declared_front(
+    alloc: Global,
+    lists: &Lists,
+    body: &Body,
+    d: u32,
+    names: &[Declarator],
+) -> Result<Front, NoMemory>
+    ensures front { IfOk result (λ f. front_in lists.now.cells.keys f ≡ declaration_front body.now d names.now) }
+    ensures highest { IfOk result (λ f. highest_front f ≡ 0) }
+{
+    Ok(plain(lists, declaration_items(alloc, body, d, names)?))
+}
+
+fn dropped_front(
+    alloc: Global,
+    lists: &Lists,
+    e: ExprId,
+    d: u32,
+    pos: Pos,
+) -> Result<Front, NoMemory>
+    ensures front { IfOk result (λ f. front_in lists.now.cells.keys f ≡ expression_statement e d pos) }
+    ensures highest { IfOk result (λ f. highest_front f ≡ 0) }
+{
+    Ok(plain(lists, expression_items(alloc, e, d, pos)?))
+}
+
+fn for_front(
+    alloc: Global,
+    lists: &Lists,
+    body: &Body,
+    s: StmtId,
+    l: &ForLoop,
+    d: u32,
+    pos: Pos,
+) -> Result<Front, NoMemory>
+    ensures front { IfOk result (λ f. front_in lists.now.cells.keys f ≡ initial_front body.now d l.now.initial ++ For s d ∷ Leave (scopes.Declared s) pos ∷ []) }
+    ensures highest { IfOk result (λ f. highest_front f ≡ 0) }
+{
+    Ok(plain(lists, for_items(alloc, body, s, l, d, pos)?))
+}
+
+fn tried_front(
+    alloc: Global,
+    lists: &Lists,
+    s: StmtId,
+    t: &TryStatement,
+    d: u32,
+) -> Result<Front, NoMemory>
+    ensures front { IfOk result (λ f. front_in lists.now.cells.keys f ≡ try_front s t.now d) }
+    ensures highest { IfOk result (λ f. highest_front f ≡ 0) }
+{
+    Ok(plain(lists, try_items(alloc, s, t, d)?))
+}
+
+fn super_call_front(
+    alloc: Global,
+    lists: &Lists,
+    c: &SuperCall,
+    d: u32,
+    pos: Pos,
+) -> Result<Front, NoMemory>
+    ensures front { IfOk result (λ f. front_in lists.now.cells.keys f ≡ super_front c.now d pos) }
+    ensures highest { IfOk result (λ f. highest_front f ≡ 0) }
+{
+    Ok(plain(lists, super_items(alloc, c, d, pos)?))
+}
+
+// A completion begins.
+fn out_front(alloc: Global, lists: &Lists, c: Completion) -> Result<Front, NoMemory>
+    ensures front { IfOk result (λ f. front_in lists.now.cells.keys f ≡ Out c ∷ []) }
+    ensures highest { IfOk result (λ f. highest_front f ≡ 0) }
+{
+    items_front(alloc, lists, &[Item::Out(c)])
+}
+
+// The body of a `do` statement runs before the end of its first turn.
+fn do_front(alloc: Global, lists: &Lists, s: StmtId, x: StmtId, d: u32) -> Result<Front, NoMemory>
+    ensures front { IfOk result (λ f. front_in lists.now.cells.keys f ≡ Do x d ∷ LoopEnd s d ∷ []) }
+    ensures highest { IfOk result (λ f. highest_front f ≡ 0) }
+{
+    items_front(alloc, lists, &[Item::Do(x, d), Item::LoopEnd(s, d)])
 }
 
 /// What a statement becomes.
@@ -381,24 +482,21 @@ pub fn statement_front(
     use program_model::StatementKind as Kind;
     let pos = found.pos;
     match &found.kind {
-        Kind::Block(ss, _) => Ok(plain(lists, block_items(alloc, s, ss, d, pos)?)),
+        Kind::Block(ss, _) => block_front(alloc, lists, s, ss, d, pos),
         Kind::Empty => items_front(alloc, lists, &[]),
-        Kind::LocalDeclaration(names) => Ok(plain(
-            lists,
-            declaration_items(alloc, body, d, names)?,
-        )),
-        Kind::Expression(e) => Ok(plain(lists, expression_items(alloc, *e, d, pos)?)),
+        Kind::LocalDeclaration(names) => declared_front(alloc, lists, body, d, names),
+        Kind::Expression(e) => dropped_front(alloc, lists, *e, d, pos),
         Kind::If(c, x, y) => branch_front(alloc, lists, Condition::Of(*c), *x, *y, d),
         Kind::While(c, x) => turn_front(alloc, lists, Condition::Of(*c), *x, s, d),
-        Kind::Do(x, _) => items_front(alloc, lists, &[Item::Do(*x, d), Item::LoopEnd(s, d)]),
-        Kind::For(l) => Ok(plain(lists, for_items(alloc, body, s, l, d, pos)?)),
-        Kind::Return(value) => Ok(plain(lists, return_items(alloc, *value, d, pos)?)),
-        Kind::Throw(e) => Ok(plain(lists, throw_items(alloc, body, *e, d, pos)?)),
-        Kind::Break => items_front(alloc, lists, &[Item::Out(Completion::Break(pos))]),
-        Kind::Continue => items_front(alloc, lists, &[Item::Out(Completion::Continue(pos))]),
-        Kind::Try(t) => Ok(plain(lists, try_items(alloc, s, t, d)?)),
-        Kind::SuperCall(c) => Ok(plain(lists, super_items(alloc, c, d, pos)?)),
-        Kind::FieldInitializer(e) => Ok(plain(lists, expression_items(alloc, *e, d, pos)?)),
+        Kind::Do(x, _) => do_front(alloc, lists, s, *x, d),
+        Kind::For(l) => for_front(alloc, lists, body, s, l, d, pos),
+        Kind::Return(value) => return_front(alloc, lists, *value, d, pos),
+        Kind::Throw(e) => throw_front(alloc, lists, body, *e, d, pos),
+        Kind::Break => out_front(alloc, lists, Completion::Break(pos)),
+        Kind::Continue => out_front(alloc, lists, Completion::Continue(pos)),
+        Kind::Try(t) => tried_front(alloc, lists, s, t, d),
+        Kind::SuperCall(c) => super_call_front(alloc, lists, c, d, pos),
+        Kind::FieldInitializer(e) => dropped_front(alloc, lists, *e, d, pos),
     }
 }
 

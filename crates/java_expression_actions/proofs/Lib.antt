@@ -1,0 +1,3 @@
+mod AnnotationActionLaws
+mod ExpressionActionLaws
+mod TokenActionLaws

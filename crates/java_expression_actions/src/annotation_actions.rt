@@ -1,7 +1,12 @@
-ghost use Rattle.std.specs.Prelude.{ℕ};
-ghost use Rattle.java_values.specs.Values.{values_of};
-ghost use Rattle.java_values.specs.Kinds.{Fits};
-ghost use Rattle.java_nested_trees.specs.Outcomes.{Gives, IsNoMisfit};
+ghost use Rattle.std.specs.Prelude.{◌≡◌, ◌∷◌, ℕ, List};
+ghost use Rattle.java_syntax.specs.AnnotationTrees.{ModifierTree, modifier_of};
+ghost use Rattle.java_values.specs.Values as kinds;
+ghost use Rattle.java_values.specs.Values.{ValueTree, values_of};
+ghost use Rattle.java_values.specs.Kinds.{Fits, IsTop};
+ghost use Rattle.java_nested_trees.specs.NestedTrees.{Nested as NestedTree};
+ghost use Rattle.java_nested_trees.specs.Lists as lists;
+ghost use Rattle.java_nested_trees.specs.Outcomes.{Gives, IsNoMisfit, Outcome, Made};
+ghost use Rattle.java_statement_nodes.specs.Parts.{word_node};
 ghost use Rattle.java_expression_actions.specs.AnnotationActions.{takes_annotation, perform_annotation};
 ghost use Rattle.java_syntax.specs.declared.actions.AnnotationAction.TheVariants as action;
 
@@ -17,14 +22,6 @@ use java_values::{
     pop_modifiers, pop_name, pop_place,
 };
 use std::alloc::Global;
-
-/// No argument of an annotation yet.
-#[tactic(auto, unfolding(crate::specs::AnnotationActions::perform_annotation))]
-fn no_arguments_action(alloc: Global, stack: &mut Vec<Value>) -> Result<(), BuildFail>
-    ensures { (limit : ℕ) → Gives (λ _. values_of stack.new.items) result (perform_annotation limit action.NoArguments (values_of stack.old.items)) }
-{
-    leave(stack, Value::Arguments(none(alloc)))
-}
 
 /// An annotation (JLS 9.7).
 #[tactic(auto, unfolding(crate::specs::AnnotationActions::perform_annotation))]
@@ -86,14 +83,6 @@ fn annotation_value_action(limit: u32, stack: &mut Vec<Value>) -> Result<(), Bui
     leave_annotation_value(stack, made)
 }
 
-/// No value in braces yet.
-#[tactic(auto, unfolding(crate::specs::AnnotationActions::perform_annotation))]
-fn no_values_action(alloc: Global, stack: &mut Vec<Value>) -> Result<(), BuildFail>
-    ensures { (limit : ℕ) → Gives (λ _. values_of stack.new.items) result (perform_annotation limit action.NoValues (values_of stack.old.items)) }
-{
-    leave(stack, Value::AnnotationValues(none(alloc)))
-}
-
 /// A further value in braces.
 #[tactic(auto, unfolding(crate::specs::AnnotationActions::perform_annotation))]
 fn and_value_action(stack: &mut Vec<Value>) -> Result<(), BuildFail>
@@ -130,14 +119,6 @@ fn and_annotation_action(stack: &mut Vec<Value>) -> Result<(), BuildFail>
     leave(stack, Value::Annotations(made))
 }
 
-/// No modifier yet.
-#[tactic(auto, unfolding(crate::specs::AnnotationActions::perform_annotation))]
-fn no_modifiers_action(alloc: Global, stack: &mut Vec<Value>) -> Result<(), BuildFail>
-    ensures { (limit : ℕ) → Gives (λ _. values_of stack.new.items) result (perform_annotation limit action.NoModifiers (values_of stack.old.items)) }
-{
-    leave(stack, Value::Modifiers(none(alloc)))
-}
-
 /// An annotation among modifiers.
 #[tactic(auto, unfolding(crate::specs::AnnotationActions::perform_annotation))]
 fn annotation_modifier_action(stack: &mut Vec<Value>) -> Result<(), BuildFail>
@@ -158,70 +139,23 @@ fn first_annotation_action(alloc: Global, stack: &mut Vec<Value>) -> Result<(), 
     let one = pop_annotation(stack);
     let pos = place_of_annotation(&one.tree);
     let all = added(none(alloc), modifier(one))?;
-    leave(stack, Value::Place(Place { pos }))?;
-    leave(stack, Value::Modifiers(all))
+    let place = leave(stack, Value::Place(Place { pos }));
+    let modifiers = leave(stack, Value::Modifiers(all));
+    place?;
+    modifiers
 }
 
-/// The modifier `public`.
-#[tactic(auto, unfolding(crate::specs::AnnotationActions::perform_annotation))]
-fn public_action(stack: &mut Vec<Value>) -> Result<(), BuildFail>
-    requires { Fits (takes_annotation action.Public) (values_of stack.old.items) }
-    ensures { (limit : ℕ) → Gives (λ _. values_of stack.new.items) result (perform_annotation limit action.Public (values_of stack.old.items)) }
+/// A modifier word, by an action that adds it to the modifiers on the stack.
+fn word_action(stack: &mut Vec<Value>, modifier: Modifier) -> Result<(), BuildFail>
+    requires { IsTop kinds.modifiers (values_of stack.old.items) }
+    ensures { (o : Outcome (List ValueTree)) → ((all : NestedTree (List ModifierTree)) (rest : List ValueTree) → values_of stack.old.items ≡ kinds.AModifiers all ∷ rest → o ≡ Made (kinds.AModifiers (lists.added all (word_node (modifier_of modifier))) ∷ rest)) → Gives (λ _. values_of stack.new.items) result o }
 {
     let all = pop_modifiers(stack);
-    leave_modifier(stack, all, word(Modifier::Public))
+    leave_modifier(stack, all, word(modifier))
 }
 
-/// The modifier `protected`.
-#[tactic(auto, unfolding(crate::specs::AnnotationActions::perform_annotation))]
-fn protected_action(stack: &mut Vec<Value>) -> Result<(), BuildFail>
-    requires { Fits (takes_annotation action.Protected) (values_of stack.old.items) }
-    ensures { (limit : ℕ) → Gives (λ _. values_of stack.new.items) result (perform_annotation limit action.Protected (values_of stack.old.items)) }
-{
-    let all = pop_modifiers(stack);
-    leave_modifier(stack, all, word(Modifier::Protected))
-}
-
-/// The modifier `private`.
-#[tactic(auto, unfolding(crate::specs::AnnotationActions::perform_annotation))]
-fn private_action(stack: &mut Vec<Value>) -> Result<(), BuildFail>
-    requires { Fits (takes_annotation action.Private) (values_of stack.old.items) }
-    ensures { (limit : ℕ) → Gives (λ _. values_of stack.new.items) result (perform_annotation limit action.Private (values_of stack.old.items)) }
-{
-    let all = pop_modifiers(stack);
-    leave_modifier(stack, all, word(Modifier::Private))
-}
-
-/// The modifier `static`.
-#[tactic(auto, unfolding(crate::specs::AnnotationActions::perform_annotation))]
-fn static_action(stack: &mut Vec<Value>) -> Result<(), BuildFail>
-    requires { Fits (takes_annotation action.Static) (values_of stack.old.items) }
-    ensures { (limit : ℕ) → Gives (λ _. values_of stack.new.items) result (perform_annotation limit action.Static (values_of stack.old.items)) }
-{
-    let all = pop_modifiers(stack);
-    leave_modifier(stack, all, word(Modifier::Static))
-}
-
-/// The modifier `final`.
-#[tactic(auto, unfolding(crate::specs::AnnotationActions::perform_annotation))]
-fn final_action(stack: &mut Vec<Value>) -> Result<(), BuildFail>
-    requires { Fits (takes_annotation action.Final) (values_of stack.old.items) }
-    ensures { (limit : ℕ) → Gives (λ _. values_of stack.new.items) result (perform_annotation limit action.Final (values_of stack.old.items)) }
-{
-    let all = pop_modifiers(stack);
-    leave_modifier(stack, all, word(Modifier::Final))
-}
-
-/// The modifier `abstract`.
-#[tactic(auto, unfolding(crate::specs::AnnotationActions::perform_annotation))]
-fn abstract_action(stack: &mut Vec<Value>) -> Result<(), BuildFail>
-    requires { Fits (takes_annotation action.Abstract) (values_of stack.old.items) }
-    ensures { (limit : ℕ) → Gives (λ _. values_of stack.new.items) result (perform_annotation limit action.Abstract (values_of stack.old.items)) }
-{
-    let all = pop_modifiers(stack);
-    leave_modifier(stack, all, word(Modifier::Abstract))
-}
-
+/// Does the action of a table.
+#[tactic(auto, using(crate::proofs::AnnotationActionLaws::annotation_laws))]
 fn dispatch_annotation(
     alloc: Global,
     limit: u32,
@@ -233,25 +167,25 @@ fn dispatch_annotation(
     ensures { Gives (λ _. values_of stack.new.items) result (perform_annotation limit action (values_of stack.old.items)) }
 {
     match action {
-        AnnotationAction::NoArguments => no_arguments_action(alloc, stack),
+        AnnotationAction::NoArguments => leave(stack, Value::Arguments(none(alloc))),
         AnnotationAction::Annotation => annotation_action(limit, stack),
         AnnotationAction::Pair => pair_action(stack),
         AnnotationAction::SingleValue => single_value_action(stack),
         AnnotationAction::ExpressionValue => expression_value_action(limit, stack),
         AnnotationAction::AnnotationValue => annotation_value_action(limit, stack),
-        AnnotationAction::NoValues => no_values_action(alloc, stack),
+        AnnotationAction::NoValues => leave(stack, Value::AnnotationValues(none(alloc))),
         AnnotationAction::AndValue => and_value_action(stack),
         AnnotationAction::ListValue => list_value_action(limit, stack),
         AnnotationAction::AndAnnotation => and_annotation_action(stack),
-        AnnotationAction::NoModifiers => no_modifiers_action(alloc, stack),
+        AnnotationAction::NoModifiers => leave(stack, Value::Modifiers(none(alloc))),
         AnnotationAction::AnnotationModifier => annotation_modifier_action(stack),
         AnnotationAction::FirstAnnotation => first_annotation_action(alloc, stack),
-        AnnotationAction::Public => public_action(stack),
-        AnnotationAction::Protected => protected_action(stack),
-        AnnotationAction::Private => private_action(stack),
-        AnnotationAction::Static => static_action(stack),
-        AnnotationAction::Final => final_action(stack),
-        AnnotationAction::Abstract => abstract_action(stack),
+        AnnotationAction::Public => word_action(stack, Modifier::Public),
+        AnnotationAction::Protected => word_action(stack, Modifier::Protected),
+        AnnotationAction::Private => word_action(stack, Modifier::Private),
+        AnnotationAction::Static => word_action(stack, Modifier::Static),
+        AnnotationAction::Final => word_action(stack, Modifier::Final),
+        AnnotationAction::Abstract => word_action(stack, Modifier::Abstract),
     }
 }
 

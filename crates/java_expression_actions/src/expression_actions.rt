@@ -18,14 +18,6 @@ use java_values::{
 };
 use std::alloc::Global;
 
-/// No expression of a list yet.
-#[tactic(auto, unfolding(crate::specs::ExpressionActions::perform_expression))]
-fn no_expressions_action(alloc: Global, stack: &mut Vec<Value>) -> Result<(), BuildFail>
-    ensures { (limit : ℕ) → Gives (λ _. values_of stack.new.items) result (perform_expression limit action.NoExpressions (values_of stack.old.items)) }
-{
-    leave(stack, Value::Expressions(none(alloc)))
-}
-
 /// A further expression of a list.
 #[tactic(auto, unfolding(crate::specs::ExpressionActions::perform_expression))]
 fn and_expression_action(stack: &mut Vec<Value>) -> Result<(), BuildFail>
@@ -46,14 +38,6 @@ fn some_call_action(stack: &mut Vec<Value>) -> Result<(), BuildFail>
 {
     let all = pop_expressions(stack);
     leave(stack, Value::Call(Some(all)))
-}
-
-/// No arguments stand behind an identifier.
-#[tactic(auto, unfolding(crate::specs::ExpressionActions::perform_expression))]
-fn no_call_action(stack: &mut Vec<Value>) -> Result<(), BuildFail>
-    ensures { (limit : ℕ) → Gives (λ _. values_of stack.new.items) result (perform_expression limit action.NoCall (values_of stack.old.items)) }
-{
-    leave(stack, Value::Call(None))
 }
 
 /// An identifier, or a call of the method with that name (JLS 15.12).
@@ -367,8 +351,10 @@ fn begin_operations_action(alloc: Global, stack: &mut Vec<Value>) -> Result<(), 
     ensures { (limit : ℕ) → Gives (λ _. values_of stack.new.items) result (perform_expression limit action.BeginOperations (values_of stack.old.items)) }
 {
     let e = pop_expression(stack);
-    leave(stack, Value::Operations(Vec::new(alloc)))?;
-    leave(stack, Value::Expression(e))
+    let waiting = leave(stack, Value::Operations(Vec::new(alloc)));
+    let operand = leave(stack, Value::Expression(e));
+    waiting?;
+    operand
 }
 
 /// No operator follows: all have their right operands.
@@ -458,6 +444,8 @@ fn leave_place_action(stack: &mut Vec<Value>) -> Result<(), BuildFail>
     leave(stack, Value::Expression(e))
 }
 
+/// Does the action of a table.
+#[tactic(auto, using(crate::proofs::ExpressionActionLaws::expression_laws))]
 fn dispatch_expression(
     alloc: Global,
     limit: u32,
@@ -469,10 +457,10 @@ fn dispatch_expression(
     ensures { Gives (λ _. values_of stack.new.items) result (perform_expression limit action (values_of stack.old.items)) }
 {
     match action {
-        ExpressionAction::NoExpressions => no_expressions_action(alloc, stack),
+        ExpressionAction::NoExpressions => leave(stack, Value::Expressions(none(alloc))),
         ExpressionAction::AndExpression => and_expression_action(stack),
         ExpressionAction::SomeCall => some_call_action(stack),
-        ExpressionAction::NoCall => no_call_action(stack),
+        ExpressionAction::NoCall => leave(stack, Value::Call(None)),
         ExpressionAction::Head => head_action(limit, stack),
         ExpressionAction::Selector => selector_action(alloc, limit, stack),
         ExpressionAction::SuperMethodCall => super_method_call_action(limit, stack),

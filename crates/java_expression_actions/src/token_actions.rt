@@ -1,13 +1,15 @@
-ghost use Rattle.std.specs.Prelude.{ℕ};
+ghost use Rattle.std.specs.Prelude.{◌∷◌, ℕ};
 ghost use Rattle.java_nested_trees.specs.NestedTrees.{lexeme_in};
+ghost use Rattle.java_expression_nodes.specs.Closed.{closed_of};
+ghost use Rattle.java_values.specs.Values as kinds;
 ghost use Rattle.java_values.specs.Values.{values_of};
 ghost use Rattle.java_values.specs.Kinds.{Fits};
-ghost use Rattle.java_nested_trees.specs.Outcomes.{Gives, IsNoMisfit};
+ghost use Rattle.java_nested_trees.specs.Outcomes.{Gives, IsNoMisfit, Made};
 ghost use Rattle.java_expression_actions.specs.TokenActions.{takes_token, perform_token};
 ghost use Rattle.java_syntax.specs.declared.actions.TokenAction.TheVariants as action;
 
 use java_expression_nodes::{
-    COMPARISON, close_operations, extended, infix_operator, level_of, literal, name_at,
+    COMPARISON, Closed, close_operations, extended, infix_operator, level_of, literal, name_at,
     postfix_step, primitive_at, step_operator, this, with_identifier, with_operator,
 };
 use java_nested_trees::{BuildFail, Identifiers, Lexeme};
@@ -25,22 +27,6 @@ fn place_action(token: Lexeme, stack: &mut Vec<Value>) -> Result<(), BuildFail>
     ensures { (limit : ℕ) → Gives (λ _. values_of stack.new.items) result (perform_token limit (lexeme_in token) action.Place (values_of stack.old.items)) }
 {
     leave(stack, Value::Place(Place { pos: token.pos }))
-}
-
-/// The token itself, which an action behind needs.
-#[tactic(auto, unfolding(crate::specs::TokenActions::perform_token))]
-fn keep_action(token: Lexeme, stack: &mut Vec<Value>) -> Result<(), BuildFail>
-    ensures { (limit : ℕ) → Gives (λ _. values_of stack.new.items) result (perform_token limit (lexeme_in token) action.Keep (values_of stack.old.items)) }
-{
-    leave(stack, Value::Token(token))
-}
-
-/// An identifier, or the `this` of a receiver parameter.
-#[tactic(auto, unfolding(crate::specs::TokenActions::perform_token))]
-fn name_action(token: Lexeme, stack: &mut Vec<Value>) -> Result<(), BuildFail>
-    ensures { (limit : ℕ) → Gives (λ _. values_of stack.new.items) result (perform_token limit (lexeme_in token) action.Name (values_of stack.old.items)) }
-{
-    leave(stack, Value::Name(name_at(token)))
 }
 
 /// A further identifier of a name (JLS 6.2), behind a dot.
@@ -81,14 +67,6 @@ fn next_identifier_action(token: Lexeme, stack: &mut Vec<Value>) -> Result<(), B
     let names = pop_identifiers(stack);
     let made = with_identifier(names, name_at(token))?;
     leave(stack, Value::Identifiers(made))
-}
-
-/// A primitive type (JLS 4.2).
-#[tactic(auto, unfolding(crate::specs::TokenActions::perform_token))]
-fn primitive_type_action(token: Lexeme, stack: &mut Vec<Value>) -> Result<(), BuildFail>
-    ensures { (limit : ℕ) → Gives (λ _. values_of stack.new.items) result (perform_token limit (lexeme_in token) action.PrimitiveType (values_of stack.old.items)) }
-{
-    leave(stack, Value::Type(primitive_at(token)))
 }
 
 /// A literal (JLS 3.10).
@@ -150,6 +128,18 @@ fn operator_action(
     leave(stack, Value::Operations(operations))
 }
 
+/// Leaves the operators that wait, the left operand of `instanceof`, and its place.
+fn leave_operand(stack: &mut Vec<Value>, joined: Closed, place: Place) -> Result<(), BuildFail>
+    ensures { Gives (λ _. values_of stack.new.items) result (Made (kinds.APlace place.pos ∷ kinds.AExpression (closed_of joined).operand ∷ kinds.AOperations (closed_of joined).waiting ∷ values_of stack.old.items)) }
+{
+    let waiting = leave(stack, Value::Operations(joined.waiting));
+    let operand = leave(stack, Value::Expression(joined.operand));
+    let word = leave(stack, Value::Place(place));
+    waiting?;
+    operand?;
+    word
+}
+
 /// `instanceof` (JLS 15.20.2), which binds as a comparison by order.
 #[tactic(auto, unfolding(crate::specs::TokenActions::perform_token))]
 fn instance_operator_action(
@@ -164,9 +154,7 @@ fn instance_operator_action(
     let right = pop_expression(stack);
     let waiting = pop_operations(stack);
     let joined = close_operations(alloc, limit, COMPARISON, right, waiting)?;
-    leave(stack, Value::Operations(joined.waiting))?;
-    leave(stack, Value::Expression(joined.operand))?;
-    leave(stack, Value::Place(Place { pos: token.pos }))
+    leave_operand(stack, joined, Place { pos: token.pos })
 }
 
 /// `;` as a statement (JLS 14.6).
@@ -229,6 +217,8 @@ fn constructor_body_action(token: Lexeme, stack: &mut Vec<Value>) -> Result<(), 
     )
 }
 
+/// Does the action of a table.
+#[tactic(auto, using(crate::proofs::TokenActionLaws::token_laws))]
 fn dispatch_token(
     alloc: Global,
     limit: u32,
@@ -242,12 +232,12 @@ fn dispatch_token(
 {
     match action {
         TokenAction::Place => place_action(token, stack),
-        TokenAction::Keep => keep_action(token, stack),
-        TokenAction::Name => name_action(token, stack),
+        TokenAction::Keep => leave(stack, Value::Token(token)),
+        TokenAction::Name => leave(stack, Value::Name(name_at(token))),
         TokenAction::ExtendName => extend_name_action(token, stack),
         TokenAction::FirstIdentifier => first_identifier_action(alloc, token, stack),
         TokenAction::NextIdentifier => next_identifier_action(token, stack),
-        TokenAction::PrimitiveType => primitive_type_action(token, stack),
+        TokenAction::PrimitiveType => leave(stack, Value::Type(primitive_at(token))),
         TokenAction::Literal => literal_action(limit, token, stack),
         TokenAction::This => this_action(limit, token, stack),
         TokenAction::Increment => increment_action(alloc, limit, token, stack),

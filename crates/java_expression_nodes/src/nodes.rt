@@ -1,4 +1,4 @@
-ghost use Rattle.std.specs.Prelude.{◌≡◌, map};
+ghost use Rattle.std.specs.Prelude.{◌≡◌, map, IfOk};
 ghost use Rattle.java_syntax.specs.ExpressionTrees.{expr_of, expressions};
 ghost use Rattle.java_syntax.specs.ExpressionTrees as expr;
 ghost use Rattle.java_nested_trees.specs.NestedTrees.{nested_of, exprs_in};
@@ -22,6 +22,13 @@ fn node(limit: u32, below: u32, tree: Expr, pos: Pos) -> Result<Nested<Expr>, Bu
             Err(fail)
         }
     }
+}
+
+/// The expression in a box.
+fn boxed_expression(alloc: Global, tree: Expr) -> Result<Box<Expr>, NoMemory>
+    ensures { IfOk result (λ part. part.value ≡ tree) }
+{
+    boxed(alloc, tree)
 }
 
 /// A literal (JLS 3.10), one level deeper than its parts.
@@ -140,7 +147,7 @@ pub fn method_call(
     ensures { Gives (nested_of expr_of) result (nodes.method_call_node limit (nested_of expr_of target) name (nested_of exprs_in arguments) pos) }
 {
     let below = target.depth.max(arguments.depth);
-    match boxed(alloc, target.tree) {
+    match boxed_expression(alloc, target.tree) {
         Ok(target) => node(
             limit,
             below,
@@ -166,7 +173,7 @@ pub fn field_access(
     ensures { Gives (nested_of expr_of) result (nodes.field_access_node limit (nested_of expr_of target) name pos) }
 {
     let below = target.depth;
-    match boxed(alloc, target.tree) {
+    match boxed_expression(alloc, target.tree) {
         Ok(target) => node(limit, below, Expr::FieldAccess { target, name, pos }, pos),
         Err(NoMemory) => Err(BuildFail::NoMemory),
     }
@@ -187,7 +194,10 @@ pub fn index(
     ensures { Gives (nested_of expr_of) result (nodes.index_node limit (nested_of expr_of array) (nested_of expr_of index) pos) }
 {
     let below = array.depth.max(index.depth);
-    match (boxed(alloc, array.tree), boxed(alloc, index.tree)) {
+    match (
+        boxed_expression(alloc, array.tree),
+        boxed_expression(alloc, index.tree),
+    ) {
         (Ok(array), Ok(index)) => node(limit, below, Expr::Index { array, index, pos }, pos),
         _ => Err(BuildFail::NoMemory),
     }
@@ -236,7 +246,7 @@ pub fn new_array(
     ensures { Gives (nested_of expr_of) result (nodes.new_array_node limit element (nested_of expr_of length) pos) }
 {
     let below = length.depth;
-    match boxed(alloc, length.tree) {
+    match boxed_expression(alloc, length.tree) {
         Ok(length) => node(
             limit,
             below,
@@ -266,7 +276,7 @@ pub fn prefix(
     ensures { Gives (nested_of expr_of) result (nodes.prefix_node limit operator (nested_of expr_of operand) pos) }
 {
     let below = operand.depth;
-    match boxed(alloc, operand.tree) {
+    match boxed_expression(alloc, operand.tree) {
         Ok(operand) => node(
             limit,
             below,
@@ -296,7 +306,7 @@ pub fn prefix_step(
     ensures { Gives (nested_of expr_of) result (nodes.prefix_step_node limit operator (nested_of expr_of operand) pos) }
 {
     let below = operand.depth;
-    match boxed(alloc, operand.tree) {
+    match boxed_expression(alloc, operand.tree) {
         Ok(operand) => node(
             limit,
             below,
@@ -326,7 +336,7 @@ pub fn postfix_step(
     ensures { Gives (nested_of expr_of) result (nodes.postfix_step_node limit operator (nested_of expr_of operand) pos) }
 {
     let below = operand.depth;
-    match boxed(alloc, operand.tree) {
+    match boxed_expression(alloc, operand.tree) {
         Ok(operand) => node(
             limit,
             below,
@@ -356,7 +366,7 @@ pub fn cast(
     ensures { Gives (nested_of expr_of) result (nodes.cast_node limit typ (nested_of expr_of operand) pos) }
 {
     let below = operand.depth;
-    match boxed(alloc, operand.tree) {
+    match boxed_expression(alloc, operand.tree) {
         Ok(operand) => node(limit, below, Expr::Cast { typ, operand, pos }, pos),
         Err(NoMemory) => Err(BuildFail::NoMemory),
     }
@@ -378,7 +388,10 @@ pub fn infix(
     ensures { Gives (nested_of expr_of) result (nodes.infix_node limit operator (nested_of expr_of left) (nested_of expr_of right) pos) }
 {
     let below = left.depth.max(right.depth);
-    match (boxed(alloc, left.tree), boxed(alloc, right.tree)) {
+    match (
+        boxed_expression(alloc, left.tree),
+        boxed_expression(alloc, right.tree),
+    ) {
         (Ok(left), Ok(right)) => node(
             limit,
             below,
@@ -409,7 +422,7 @@ pub fn instance(
     ensures { Gives (nested_of expr_of) result (nodes.instance_node limit (nested_of expr_of operand) typ pos) }
 {
     let below = operand.depth;
-    match boxed(alloc, operand.tree) {
+    match boxed_expression(alloc, operand.tree) {
         Ok(operand) => node(limit, below, Expr::InstanceOf { operand, typ, pos }, pos),
         Err(NoMemory) => Err(BuildFail::NoMemory),
     }
@@ -432,9 +445,9 @@ pub fn conditional(
 {
     let below = condition.depth.max(when_true.depth.max(when_false.depth));
     match (
-        boxed(alloc, condition.tree),
-        boxed(alloc, when_true.tree),
-        boxed(alloc, when_false.tree),
+        boxed_expression(alloc, condition.tree),
+        boxed_expression(alloc, when_true.tree),
+        boxed_expression(alloc, when_false.tree),
     ) {
         (Ok(condition), Ok(when_true), Ok(when_false)) => node(
             limit,
@@ -466,7 +479,10 @@ pub fn assignment(
     ensures { Gives (nested_of expr_of) result (nodes.assignment_node limit (nested_of expr_of left) (nested_of expr_of right) pos) }
 {
     let below = left.depth.max(right.depth);
-    match (boxed(alloc, left.tree), boxed(alloc, right.tree)) {
+    match (
+        boxed_expression(alloc, left.tree),
+        boxed_expression(alloc, right.tree),
+    ) {
         (Ok(left), Ok(right)) => node(limit, below, Expr::Assignment { left, right, pos }, pos),
         _ => Err(BuildFail::NoMemory),
     }
@@ -488,7 +504,10 @@ pub fn compound(
     ensures { Gives (nested_of expr_of) result (nodes.compound_node limit operator (nested_of expr_of left) (nested_of expr_of right) pos) }
 {
     let below = left.depth.max(right.depth);
-    match (boxed(alloc, left.tree), boxed(alloc, right.tree)) {
+    match (
+        boxed_expression(alloc, left.tree),
+        boxed_expression(alloc, right.tree),
+    ) {
         (Ok(left), Ok(right)) => node(
             limit,
             below,
@@ -512,9 +531,6 @@ pub fn compound(
 pub fn parenthesized(limit: u32, e: Nested<Expr>) -> Result<Nested<Expr>, BuildFail>
     ensures { Gives (nested_of expr_of) result (nodes.parenthesized limit (nested_of expr_of e)) }
 {
-    let depth = deeper(limit, e.depth, place_of(&e.tree))?;
-    Ok(Nested {
-        tree: e.tree,
-        depth,
-    })
+    let pos = place_of(&e.tree);
+    node(limit, e.depth, e.tree, pos)
 }

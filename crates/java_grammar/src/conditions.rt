@@ -10,7 +10,7 @@ use java_syntax::{
 };
 
 /// Where a name's bytes stand in the file.
-#[derive(Copy, Clone, PartialEq, Eq)]
+#[derive(Copy, Clone)]
 pub struct Span {
     /// Where they begin, counted from 0.
     pub start: u32,
@@ -19,7 +19,7 @@ pub struct Span {
 }
 
 /// What the conditions of the grammar look at.
-#[derive(Copy, Clone, PartialEq, Eq)]
+#[derive(Copy, Clone)]
 pub struct Context {
     /// Is this a stub file?
     pub is_stub: bool,

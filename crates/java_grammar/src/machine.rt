@@ -24,7 +24,7 @@ pub struct Machine {
 }
 
 /// Why nothing was derived.
-#[derive(Clone, Copy, Debug, PartialEq, Eq, Error)]
+#[derive(Clone, Copy, Debug, Error)]
 pub enum DeriveFail {
     /// The token of this number, counted from 0, is wrong; the number of all tokens stands for the end.
     #[error("the token {0} is wrong")]
@@ -50,12 +50,20 @@ impl<T: Drop> From<AllocFailed<T>> for DeriveFail {
     }
 }
 
+/// Puts the value at the end of the list.
+fn append<T: Drop>(list: &mut Vec<T>, value: T) -> Result<(), AllocError>
+    ensures { IfOk result (λ _. list.new.items ≡ list.old.items ++ value ∷ []) }
+{
+    list.push(value)?;
+    Ok(())
+}
+
 /// Puts the items on the stack, so that the first comes next.
 fn put(stack: &mut Vec<Item>, items: &[Item]) -> Result<(), AllocError>
     ensures { IfOk result (λ _. stack.new.items ≡ stack.old.items ++ reverse items.now) }
 {
     for item in items.iter().rev() {
-        stack.push(*item)?;
+        append(stack, *item)?;
     }
     Ok(())
 }
@@ -83,7 +91,7 @@ fn act(machine: &mut Machine) -> Result<(), AllocError>
     ensures { IfOk result (λ _. Acts machine.old machine.new) }
 {
     while let Some(action) = pop_action(&mut machine.stack) {
-        machine.events.push(Event::Did(action))?;
+        append(&mut machine.events, Event::Did(action))?;
     }
     Ok(())
 }
@@ -134,7 +142,7 @@ fn replace(machine: &mut Machine, production: Production) -> Result<(), AllocErr
 {
     put(&mut machine.stack, body(production))?;
     machine.context = enter(production, machine.context);
-    machine.events.push(Event::Used(production))?;
+    append(&mut machine.events, Event::Used(production))?;
     act(machine)
 }
 
@@ -184,7 +192,7 @@ fn take(machine: &mut Machine, bytes: &[u8], token: Token) -> Result<bool, Alloc
         return Ok(false);
     }
     machine.context = advance(effect, token, machine.context);
-    machine.events.push(Event::Took(token))?;
+    append(&mut machine.events, Event::Took(token))?;
     Ok(true)
 }
 

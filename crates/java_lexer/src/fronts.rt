@@ -19,7 +19,7 @@ use java_words::{is_left_out, is_reserved, is_value, operator_len, separator_len
 use rlc_base::Code;
 
 /// What a text begins with.
-#[derive(Clone, Copy, Debug, PartialEq, Eq)]
+#[derive(Clone, Copy)]
 pub enum Front {
     /// A token of this kind, or white space or a comment without a kind, and how many bytes it takes.
     Piece(Option<TokenKind>, usize),

@@ -14,7 +14,7 @@ use rlc_base::{Code, NoMemory, Pos, Refusal, Stop};
 use std::alloc::Global;
 
 /// Why the cut of a text stopped.
-#[derive(Clone, Copy, Debug, PartialEq, Eq)]
+#[derive(Clone, Copy)]
 pub enum Halt {
     /// The code refuses what stands at the place.
     Stuck(Code, usize),

@@ -4,7 +4,7 @@ ghost use Rattle.java_lexer.specs.Cut.{place_behind};
 use rlc_base::Pos;
 
 /// A place in a text that is read from its start: line and column from 1, and whether a carriage return stands before it.
-#[derive(Clone, Copy, Debug, PartialEq, Eq)]
+#[derive(Clone, Copy)]
 pub struct Cursor {
     pub line: u32,
     pub col: u32,

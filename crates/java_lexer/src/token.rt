@@ -1,5 +1,5 @@
 /// What kind of token a piece of source text is (JLS 3.5). The literals `true`, `false` and `null` are literals here.
-#[derive(Clone, Copy, Debug, PartialEq, Eq)]
+#[derive(Clone, Copy)]
 pub enum TokenKind {
     /// An identifier (JLS 3.8).
     Ident,

@@ -1,0 +1,2 @@
+mod StatementActionLaws
+mod DeclarationActionLaws

@@ -19,14 +19,6 @@ use java_values::{
 };
 use std::alloc::Global;
 
-/// No name is written.
-#[tactic(auto, unfolding(crate::specs::DeclarationActions::perform_declaration))]
-fn no_name_action(stack: &mut Vec<Value>) -> Result<(), BuildFail>
-    ensures { (limit : ℕ) → Gives (λ _. values_of stack.new.items) result (perform_declaration limit action.NoName (values_of stack.old.items)) }
-{
-    leave(stack, Value::OptionalName(None))
-}
-
 /// A name that may be absent.
 #[tactic(auto, unfolding(crate::specs::DeclarationActions::perform_declaration))]
 fn some_name_action(stack: &mut Vec<Value>) -> Result<(), BuildFail>
@@ -35,14 +27,6 @@ fn some_name_action(stack: &mut Vec<Value>) -> Result<(), BuildFail>
 {
     let name = pop_name(stack);
     leave(stack, Value::OptionalName(Some(name)))
-}
-
-/// No import yet.
-#[tactic(auto, unfolding(crate::specs::DeclarationActions::perform_declaration))]
-fn no_imports_action(alloc: Global, stack: &mut Vec<Value>) -> Result<(), BuildFail>
-    ensures { (limit : ℕ) → Gives (λ _. values_of stack.new.items) result (perform_declaration limit action.NoImports (values_of stack.old.items)) }
-{
-    leave(stack, Value::Imports(Vec::new(alloc)))
 }
 
 /// An import of a type (JLS 7.5.1).
@@ -85,14 +69,6 @@ fn import_all_action(stack: &mut Vec<Value>) -> Result<(), BuildFail>
     leave(stack, Value::Imports(made))
 }
 
-/// No class or interface yet.
-#[tactic(auto, unfolding(crate::specs::DeclarationActions::perform_declaration))]
-fn no_types_action(alloc: Global, stack: &mut Vec<Value>) -> Result<(), BuildFail>
-    ensures { (limit : ℕ) → Gives (λ _. values_of stack.new.items) result (perform_declaration limit action.NoTypes (values_of stack.old.items)) }
-{
-    leave(stack, Value::Types(Vec::new(alloc)))
-}
-
 /// A source file (JLS 7.3), or a section of a stub file.
 #[tactic(auto, unfolding(crate::specs::DeclarationActions::perform_declaration))]
 fn unit_action(alloc: Global, stack: &mut Vec<Value>) -> Result<(), BuildFail>
@@ -105,14 +81,6 @@ fn unit_action(alloc: Global, stack: &mut Vec<Value>) -> Result<(), BuildFail>
     leave(stack, Value::Unit(unit(alloc, package, imports, types)))
 }
 
-/// No section of a stub file yet.
-#[tactic(auto, unfolding(crate::specs::DeclarationActions::perform_declaration))]
-fn no_units_action(alloc: Global, stack: &mut Vec<Value>) -> Result<(), BuildFail>
-    ensures { (limit : ℕ) → Gives (λ _. values_of stack.new.items) result (perform_declaration limit action.NoUnits (values_of stack.old.items)) }
-{
-    leave(stack, Value::Units(Vec::new(alloc)))
-}
-
 /// A further section of a stub file.
 #[tactic(auto, unfolding(crate::specs::DeclarationActions::perform_declaration))]
 fn and_unit_action(stack: &mut Vec<Value>) -> Result<(), BuildFail>
@@ -123,14 +91,6 @@ fn and_unit_action(stack: &mut Vec<Value>) -> Result<(), BuildFail>
     let all = pop_units(stack);
     let made = appended(all, one)?;
     leave(stack, Value::Units(made))
-}
-
-/// No member yet.
-#[tactic(auto, unfolding(crate::specs::DeclarationActions::perform_declaration))]
-fn no_members_action(alloc: Global, stack: &mut Vec<Value>) -> Result<(), BuildFail>
-    ensures { (limit : ℕ) → Gives (λ _. values_of stack.new.items) result (perform_declaration limit action.NoMembers (values_of stack.old.items)) }
-{
-    leave(stack, Value::Members(Vec::new(alloc)))
 }
 
 /// A class (JLS 8.1).
@@ -178,14 +138,6 @@ fn interface_action(stack: &mut Vec<Value>) -> Result<(), BuildFail>
     leave(stack, Value::Types(appended(all, interface)?))
 }
 
-/// A method gives no result: `void` (JLS 8.4.5).
-#[tactic(auto, unfolding(crate::specs::DeclarationActions::perform_declaration))]
-fn no_result_action(stack: &mut Vec<Value>) -> Result<(), BuildFail>
-    ensures { (limit : ℕ) → Gives (λ _. values_of stack.new.items) result (perform_declaration limit action.NoResult (values_of stack.old.items)) }
-{
-    leave(stack, Value::OptionalType(None))
-}
-
 /// A method gives a result of a type (JLS 8.4.5).
 #[tactic(auto, unfolding(crate::specs::DeclarationActions::perform_declaration))]
 fn some_result_action(stack: &mut Vec<Value>) -> Result<(), BuildFail>
@@ -204,8 +156,10 @@ fn method_action(stack: &mut Vec<Value>) -> Result<(), BuildFail>
 {
     let name = pop_name(stack);
     let typ = pop_typ(stack);
-    leave(stack, Value::OptionalType(Some(typ)))?;
-    leave(stack, Value::Name(name))
+    let outcome = leave(stack, Value::OptionalType(Some(typ)));
+    let named = leave(stack, Value::Name(name));
+    outcome?;
+    named
 }
 
 /// A declaration of fields (JLS 8.3).
@@ -385,14 +339,6 @@ fn constructor_head_action(stack: &mut Vec<Value>) -> Result<(), BuildFail>
     leave_member(stack, all, Member::Constructor(constructor))
 }
 
-/// A constructor begins with no call of a constructor of the super class.
-#[tactic(auto, unfolding(crate::specs::DeclarationActions::perform_declaration))]
-fn no_super_call_action(stack: &mut Vec<Value>) -> Result<(), BuildFail>
-    ensures { (limit : ℕ) → Gives (λ _. values_of stack.new.items) result (perform_declaration limit action.NoSuperCall (values_of stack.old.items)) }
-{
-    leave(stack, Value::SuperCall(None))
-}
-
 /// It begins with such a call (JLS 8.8.7.1).
 #[tactic(auto, unfolding(crate::specs::DeclarationActions::perform_declaration))]
 fn super_call_action(stack: &mut Vec<Value>) -> Result<(), BuildFail>
@@ -418,10 +364,14 @@ fn first_statement_action(alloc: Global, stack: &mut Vec<Value>) -> Result<(), B
 {
     let first = pop_statement(stack);
     let all = added(none(alloc), first)?;
-    leave(stack, Value::SuperCall(None))?;
-    leave(stack, Value::Statements(all))
+    let call = leave(stack, Value::SuperCall(None));
+    let statements = leave(stack, Value::Statements(all));
+    call?;
+    statements
 }
 
+/// Does the action of a table.
+#[tactic(auto, using(crate::proofs::DeclarationActionLaws::declaration_laws))]
 fn dispatch_declaration(
     alloc: Global,
     limit: u32,
@@ -433,19 +383,19 @@ fn dispatch_declaration(
     ensures { Gives (λ _. values_of stack.new.items) result (perform_declaration limit action (values_of stack.old.items)) }
 {
     match action {
-        DeclarationAction::NoName => no_name_action(stack),
+        DeclarationAction::NoName => leave(stack, Value::OptionalName(None)),
         DeclarationAction::SomeName => some_name_action(stack),
-        DeclarationAction::NoImports => no_imports_action(alloc, stack),
+        DeclarationAction::NoImports => leave(stack, Value::Imports(Vec::new(alloc))),
         DeclarationAction::Import => import_action(stack),
         DeclarationAction::ImportAll => import_all_action(stack),
-        DeclarationAction::NoTypes => no_types_action(alloc, stack),
+        DeclarationAction::NoTypes => leave(stack, Value::Types(Vec::new(alloc))),
         DeclarationAction::Unit => unit_action(alloc, stack),
-        DeclarationAction::NoUnits => no_units_action(alloc, stack),
+        DeclarationAction::NoUnits => leave(stack, Value::Units(Vec::new(alloc))),
         DeclarationAction::AndUnit => and_unit_action(stack),
-        DeclarationAction::NoMembers => no_members_action(alloc, stack),
+        DeclarationAction::NoMembers => leave(stack, Value::Members(Vec::new(alloc))),
         DeclarationAction::Class => class_action(stack),
         DeclarationAction::Interface => interface_action(stack),
-        DeclarationAction::NoResult => no_result_action(stack),
+        DeclarationAction::NoResult => leave(stack, Value::OptionalType(None)),
         DeclarationAction::SomeResult => some_result_action(stack),
         DeclarationAction::Method => method_action(stack),
         DeclarationAction::Field => field_action(stack),
@@ -456,7 +406,7 @@ fn dispatch_declaration(
         DeclarationAction::MethodHead => method_head_action(stack),
         DeclarationAction::Constructor => constructor_action(stack),
         DeclarationAction::ConstructorHead => constructor_head_action(stack),
-        DeclarationAction::NoSuperCall => no_super_call_action(stack),
+        DeclarationAction::NoSuperCall => leave(stack, Value::SuperCall(None)),
         DeclarationAction::SuperCall => super_call_action(stack),
         DeclarationAction::FirstStatement => first_statement_action(alloc, stack),
     }

@@ -26,8 +26,10 @@ fn first_variable_action(alloc: Global, stack: &mut Vec<Value>) -> Result<(), Bu
     ensures { (limit : ℕ) → Gives (λ _. values_of stack.new.items) result (perform_statement limit action.FirstVariable (values_of stack.old.items)) }
 {
     let name = pop_name(stack);
-    leave(stack, Value::Variables(none(alloc)))?;
-    leave(stack, Value::Name(name))
+    let variables = leave(stack, Value::Variables(none(alloc)));
+    let first = leave(stack, Value::Name(name));
+    variables?;
+    first
 }
 
 /// A variable with its initializer (JLS 8.3, 14.4).
@@ -116,14 +118,6 @@ fn expression_statement_action(limit: u32, stack: &mut Vec<Value>) -> Result<(),
         start.pos,
     );
     leave_statement(stack, made)
-}
-
-/// No statement of a block yet.
-#[tactic(auto, unfolding(crate::specs::StatementActions::perform_statement))]
-fn no_statements_action(alloc: Global, stack: &mut Vec<Value>) -> Result<(), BuildFail>
-    ensures { (limit : ℕ) → Gives (λ _. values_of stack.new.items) result (perform_statement limit action.NoStatements (values_of stack.old.items)) }
-{
-    leave(stack, Value::Statements(none(alloc)))
 }
 
 /// A further statement of a block.
@@ -292,14 +286,6 @@ fn no_expression_action(stack: &mut Vec<Value>) -> Result<(), BuildFail>
     )
 }
 
-/// No resource of a `try` yet.
-#[tactic(auto, unfolding(crate::specs::StatementActions::perform_statement))]
-fn no_resources_action(alloc: Global, stack: &mut Vec<Value>) -> Result<(), BuildFail>
-    ensures { (limit : ℕ) → Gives (λ _. values_of stack.new.items) result (perform_statement limit action.NoResources (values_of stack.old.items)) }
-{
-    leave(stack, Value::Resources(none(alloc)))
-}
-
 /// A resource of a `try` (JLS 14.20.3).
 #[tactic(auto, unfolding(crate::specs::StatementActions::perform_statement))]
 fn resource_action(stack: &mut Vec<Value>) -> Result<(), BuildFail>
@@ -313,14 +299,6 @@ fn resource_action(stack: &mut Vec<Value>) -> Result<(), BuildFail>
     let all = pop_resources(stack);
     let made = added(all, resource(modifiers, class, name, value))?;
     leave(stack, Value::Resources(made))
-}
-
-/// No catch clause of a `try` yet.
-#[tactic(auto, unfolding(crate::specs::StatementActions::perform_statement))]
-fn no_catches_action(alloc: Global, stack: &mut Vec<Value>) -> Result<(), BuildFail>
-    ensures { (limit : ℕ) → Gives (λ _. values_of stack.new.items) result (perform_statement limit action.NoCatches (values_of stack.old.items)) }
-{
-    leave(stack, Value::Catches(none(alloc)))
 }
 
 /// A catch clause (JLS 14.20).
@@ -407,14 +385,6 @@ fn throw_action(limit: u32, stack: &mut Vec<Value>) -> Result<(), BuildFail>
     leave_statement(stack, made)
 }
 
-/// No name of a list yet.
-#[tactic(auto, unfolding(crate::specs::StatementActions::perform_statement))]
-fn no_names_action(alloc: Global, stack: &mut Vec<Value>) -> Result<(), BuildFail>
-    ensures { (limit : ℕ) → Gives (λ _. values_of stack.new.items) result (perform_statement limit action.NoNames (values_of stack.old.items)) }
-{
-    leave(stack, Value::Names(Vec::new(alloc)))
-}
-
 /// A further name of a list.
 #[tactic(auto, unfolding(crate::specs::StatementActions::perform_statement))]
 fn and_name_action(stack: &mut Vec<Value>) -> Result<(), BuildFail>
@@ -427,6 +397,8 @@ fn and_name_action(stack: &mut Vec<Value>) -> Result<(), BuildFail>
     leave(stack, Value::Names(made))
 }
 
+/// Does the action of a table.
+#[tactic(auto, using(crate::proofs::StatementActionLaws::statement_laws))]
 fn dispatch_statement(
     alloc: Global,
     limit: u32,
@@ -445,7 +417,7 @@ fn dispatch_statement(
         StatementAction::ModifiedLocal => modified_local_action(stack),
         StatementAction::LocalStatement => local_statement_action(limit, stack),
         StatementAction::ExpressionStatement => expression_statement_action(limit, stack),
-        StatementAction::NoStatements => no_statements_action(alloc, stack),
+        StatementAction::NoStatements => leave(stack, Value::Statements(none(alloc))),
         StatementAction::AndStatement => and_statement_action(stack),
         StatementAction::BlockStatement => block_statement_action(limit, stack),
         StatementAction::If => if_action(alloc, limit, stack),
@@ -458,15 +430,15 @@ fn dispatch_statement(
         StatementAction::FirstExpression => first_expression_action(alloc, stack),
         StatementAction::SomeExpression => some_expression_action(stack),
         StatementAction::NoExpression => no_expression_action(stack),
-        StatementAction::NoResources => no_resources_action(alloc, stack),
+        StatementAction::NoResources => leave(stack, Value::Resources(none(alloc))),
         StatementAction::Resource => resource_action(stack),
-        StatementAction::NoCatches => no_catches_action(alloc, stack),
+        StatementAction::NoCatches => leave(stack, Value::Catches(none(alloc))),
         StatementAction::Catch => catch_action(limit, stack),
         StatementAction::Try => try_action(limit, stack),
         StatementAction::TryFinally => try_finally_action(limit, stack),
         StatementAction::Return => return_action(limit, stack),
         StatementAction::Throw => throw_action(limit, stack),
-        StatementAction::NoNames => no_names_action(alloc, stack),
+        StatementAction::NoNames => leave(stack, Value::Names(Vec::new(alloc))),
         StatementAction::AndName => and_name_action(stack),
     }
 }

@@ -3,7 +3,7 @@ ghost use Rattle.java_syntax.specs.ExpressionTrees.{expr_of};
 ghost use Rattle.java_syntax.specs.AnnotationTrees as annotation;
 ghost use Rattle.java_syntax.specs.AnnotationTrees.{anno_of, anno_value_of, argument_of, modifier_of};
 ghost use Rattle.java_nested_trees.specs.NestedTrees.{nested_of, arguments_in, anno_values_in};
-ghost use Rattle.java_nested_trees.specs.Outcomes.{Gives};
+ghost use Rattle.java_nested_trees.specs.Outcomes.{Gives, node};
 ghost use Rattle.java_statement_nodes.specs.Parts as parts;
 
 use java_nested_trees::{BuildFail, Nested, deeper, place_of};
@@ -51,6 +51,30 @@ pub fn argument(key: Option<Name>, value: Nested<AnnoValue>) -> Nested<AnnoArgum
     }
 }
 
+/// The value, one level deeper than its parts.
+fn value_node(
+    limit: u32,
+    below: u32,
+    tree: AnnoValue,
+    pos: Pos,
+) -> Result<Nested<AnnoValue>, BuildFail>
+    ensures { Gives (nested_of anno_value_of) result (node limit below (anno_value_of tree)) }
+{
+    match deeper(limit, below, pos) {
+        Ok(depth) => Ok(Nested { tree, depth }),
+        Err(fail) => {
+            drop(tree);
+            Err(fail)
+        }
+    }
+}
+
+fn expression_tree(e: Expr) -> AnnoValue
+    ensures { annotation.anno_value_of result ≡ annotation.ExpressionValue (expr_of e) }
+{
+    AnnoValue::Expression(e)
+}
+
 /// An expression as a value, one level deeper.
 ///
 /// # Errors
@@ -59,11 +83,8 @@ pub fn argument(key: Option<Name>, value: Nested<AnnoValue>) -> Nested<AnnoArgum
 pub fn expression_value(limit: u32, e: Nested<Expr>) -> Result<Nested<AnnoValue>, BuildFail>
     ensures { Gives (nested_of anno_value_of) result (parts.expression_value_node limit (nested_of expr_of e)) }
 {
-    let depth = deeper(limit, e.depth, place_of(&e.tree))?;
-    Ok(Nested {
-        tree: AnnoValue::Expression(e.tree),
-        depth,
-    })
+    let pos = place_of(&e.tree);
+    value_node(limit, e.depth, expression_tree(e.tree), pos)
 }
 
 /// An annotation as a value, one level deeper.

@@ -1,4 +1,4 @@
-ghost use Rattle.std.specs.Prelude.{◌≡◌, ◌+◌, map, option_map, max};
+ghost use Rattle.std.specs.Prelude.{◌≡◌, map, option_map, max, IfOk};
 ghost use Rattle.java_syntax.specs.ExpressionTrees.{expr_of};
 ghost use Rattle.java_syntax.specs.StatementTrees as tree;
 ghost use Rattle.java_syntax.specs.StatementTrees.{block_of, catch_of, for_start_of, local_of, resource_of, stmt_of, variable_of};
@@ -64,6 +64,44 @@ pub fn block_statement(limit: u32, block: Nested<Block>) -> Result<Nested<Stmt>,
     statement(limit, block.depth, block_tree(block.tree), pos)
 }
 
+/// A condition, and the statement that it guards, in a box.
+#[derive(Drop)]
+struct Guarded {
+    /// The condition.
+    condition: Expr,
+    /// The statement.
+    body: Box<Stmt>,
+}
+
+/// The condition, and the statement in a box.
+fn with_body(
+    alloc: Global,
+    condition: Nested<Expr>,
+    body: Nested<Stmt>,
+) -> Result<Guarded, NoMemory>
+    ensures condition { IfOk result (λ parts. parts.condition ≡ condition.tree) }
+    ensures body { IfOk result (λ parts. parts.body.value ≡ body.tree) }
+{
+    match boxed(alloc, body.tree) {
+        Ok(body) => Ok(Guarded {
+            condition: condition.tree,
+            body,
+        }),
+        Err(NoMemory) => Err(NoMemory),
+    }
+}
+
+fn if_tree(parts: Guarded, pos: Pos) -> Stmt
+    ensures { stmt_of result ≡ tree.If (expr_of parts.condition) (stmt_of parts.body.value) tree.no_else pos }
+{
+    Stmt::If {
+        condition: parts.condition,
+        then: parts.body,
+        otherwise: None,
+        pos,
+    }
+}
+
 /// An `if` without `else` (JLS 14.9).
 ///
 /// # Errors
@@ -79,18 +117,8 @@ pub fn if_statement(
     ensures { Gives (nested_of stmt_of) result (node limit (max condition.depth body.depth) (tree.If (expr_of condition.tree) (stmt_of body.tree) tree.no_else pos)) }
 {
     let below = condition.depth.max(body.depth);
-    match boxed(alloc, body.tree) {
-        Ok(then) => statement(
-            limit,
-            below,
-            Stmt::If {
-                condition: condition.tree,
-                then,
-                otherwise: None,
-                pos,
-            },
-            pos,
-        ),
+    match with_body(alloc, condition, body) {
+        Ok(parts) => statement(limit, below, if_tree(parts, pos), pos),
         Err(NoMemory) => Err(BuildFail::NoMemory),
     }
 }
@@ -127,6 +155,16 @@ pub fn if_else_statement(
     }
 }
 
+fn while_tree(parts: Guarded, pos: Pos) -> Stmt
+    ensures { stmt_of result ≡ tree.While (expr_of parts.condition) (stmt_of parts.body.value) pos }
+{
+    Stmt::While {
+        condition: parts.condition,
+        body: parts.body,
+        pos,
+    }
+}
+
 /// A `while` (JLS 14.12).
 ///
 /// # Errors
@@ -142,18 +180,19 @@ pub fn while_statement(
     ensures { Gives (nested_of stmt_of) result (node limit (max condition.depth body.depth) (tree.While (expr_of condition.tree) (stmt_of body.tree) pos)) }
 {
     let below = condition.depth.max(body.depth);
-    match boxed(alloc, body.tree) {
-        Ok(body) => statement(
-            limit,
-            below,
-            Stmt::While {
-                condition: condition.tree,
-                body,
-                pos,
-            },
-            pos,
-        ),
+    match with_body(alloc, condition, body) {
+        Ok(parts) => statement(limit, below, while_tree(parts, pos), pos),
         Err(NoMemory) => Err(BuildFail::NoMemory),
+    }
+}
+
+fn do_tree(parts: Guarded, pos: Pos) -> Stmt
+    ensures { stmt_of result ≡ tree.DoWhile (stmt_of parts.body.value) (expr_of parts.condition) pos }
+{
+    Stmt::Do {
+        body: parts.body,
+        condition: parts.condition,
+        pos,
     }
 }
 
@@ -172,17 +211,8 @@ pub fn do_statement(
     ensures { Gives (nested_of stmt_of) result (node limit (max body.depth condition.depth) (tree.DoWhile (stmt_of body.tree) (expr_of condition.tree) pos)) }
 {
     let below = body.depth.max(condition.depth);
-    match boxed(alloc, body.tree) {
-        Ok(body) => statement(
-            limit,
-            below,
-            Stmt::Do {
-                body,
-                condition: condition.tree,
-                pos,
-            },
-            pos,
-        ),
+    match with_body(alloc, condition, body) {
+        Ok(parts) => statement(limit, below, do_tree(parts, pos), pos),
         Err(NoMemory) => Err(BuildFail::NoMemory),
     }
 }

@@ -30,7 +30,6 @@ pub fn declaration_body(production: DeclarationProduction) -> &'static [Item]
             Item::Read(Symbol::Section),
             Item::Read(Symbol::Sections),
         ],
-        DeclarationProduction::NoSection => &[],
         DeclarationProduction::SectionOf => &[
             Item::Take(Word::Package, Effect::Passes),
             Item::Read(Symbol::Name),
@@ -54,7 +53,6 @@ pub fn declaration_body(production: DeclarationProduction) -> &'static [Item]
             Item::Read(Symbol::Import),
             Item::Read(Symbol::Imports),
         ],
-        DeclarationProduction::NoImport => &[],
         DeclarationProduction::ImportOf => &[
             Item::Take(Word::Import, Effect::Passes),
             Item::Do(Action::Token(TokenAction::Place)),
@@ -88,7 +86,6 @@ pub fn declaration_body(production: DeclarationProduction) -> &'static [Item]
             Item::Do(Action::Token(TokenAction::ExtendName)),
             Item::Read(Symbol::NameTail),
         ],
-        DeclarationProduction::NameEnd => &[],
         DeclarationProduction::NamesOf => &[
             Item::Do(Action::State(StatementAction::NoNames)),
             Item::Read(Symbol::Name),
@@ -101,12 +98,10 @@ pub fn declaration_body(production: DeclarationProduction) -> &'static [Item]
             Item::Do(Action::State(StatementAction::AndName)),
             Item::Read(Symbol::MoreNames),
         ],
-        DeclarationProduction::LastName => &[],
         DeclarationProduction::AndType => &[
             Item::Read(Symbol::TypeDeclaration),
             Item::Read(Symbol::Types),
         ],
-        DeclarationProduction::NoType => &[],
         DeclarationProduction::LoneSemicolon => &[Item::Take(Word::Semicolon, Effect::Passes)],
         DeclarationProduction::ModifiedType => &[
             Item::Do(Action::Annotate(AnnotationAction::NoModifiers)),
@@ -191,7 +186,6 @@ pub fn declaration_body(production: DeclarationProduction) -> &'static [Item]
             Item::Do(Action::Annotate(AnnotationAction::Abstract)),
             Item::Read(Symbol::Modifiers),
         ],
-        DeclarationProduction::NoModifier => &[],
         DeclarationProduction::VariableAnnotation => &[
             Item::Read(Symbol::Annotation),
             Item::Do(Action::Annotate(AnnotationAction::AnnotationModifier)),
@@ -202,18 +196,15 @@ pub fn declaration_body(production: DeclarationProduction) -> &'static [Item]
             Item::Do(Action::Annotate(AnnotationAction::Final)),
             Item::Read(Symbol::FinalModifiers),
         ],
-        DeclarationProduction::NoVariableModifier => &[],
         DeclarationProduction::FinalAnnotation => &[
             Item::Read(Symbol::Annotation),
             Item::Do(Action::Annotate(AnnotationAction::AnnotationModifier)),
             Item::Read(Symbol::FinalModifiers),
         ],
-        DeclarationProduction::NoFinalModifier => &[],
         DeclarationProduction::AndMember => &[
             Item::Read(Symbol::Member),
             Item::Read(Symbol::Members),
         ],
-        DeclarationProduction::NoMember => &[],
         DeclarationProduction::LoneMember => &[Item::Take(Word::Semicolon, Effect::Passes)],
         DeclarationProduction::ModifiedMember => &[
             Item::Do(Action::Annotate(AnnotationAction::NoModifiers)),
@@ -359,7 +350,6 @@ pub fn declaration_body(production: DeclarationProduction) -> &'static [Item]
             Item::Read(Symbol::ParameterName),
             Item::Read(Symbol::MoreParameters),
         ],
-        DeclarationProduction::NoParameter => &[],
         DeclarationProduction::DeclaredName => &[
             Item::Take(Word::Ident, Effect::Passes),
             Item::Do(Action::Token(TokenAction::Name)),
@@ -380,7 +370,6 @@ pub fn declaration_body(production: DeclarationProduction) -> &'static [Item]
             Item::Do(Action::Declare(DeclarationAction::Parameter)),
             Item::Read(Symbol::MoreParameters),
         ],
-        DeclarationProduction::LastParameter => &[],
         DeclarationProduction::PrimitiveType => &[
             Item::Take(Word::Primitive, Effect::Passes),
             Item::Do(Action::Token(TokenAction::PrimitiveType)),
@@ -396,7 +385,6 @@ pub fn declaration_body(production: DeclarationProduction) -> &'static [Item]
             Item::Take(Word::CloseBracket, Effect::Passes),
             Item::Do(Action::Compute(ExpressionAction::ArrayOf)),
         ],
-        DeclarationProduction::NoBrackets => &[],
         DeclarationProduction::SomeInitializer => &[
             Item::Take(Word::Assign, Effect::Passes),
             Item::Read(Symbol::Expression),
@@ -412,7 +400,6 @@ pub fn declaration_body(production: DeclarationProduction) -> &'static [Item]
             Item::Read(Symbol::Initializer),
             Item::Read(Symbol::MoreVariables),
         ],
-        DeclarationProduction::LastVariable => &[],
         DeclarationProduction::VariablesOf => &[
             Item::Take(Word::Ident, Effect::Passes),
             Item::Do(Action::Token(TokenAction::Name)),
@@ -424,7 +411,6 @@ pub fn declaration_body(production: DeclarationProduction) -> &'static [Item]
             Item::Read(Symbol::InterfaceMember),
             Item::Read(Symbol::InterfaceMembers),
         ],
-        DeclarationProduction::NoInterfaceMember => &[],
         DeclarationProduction::LoneInterfaceMember => &[Item::Take(
             Word::Semicolon,
             Effect::Passes,
@@ -453,7 +439,6 @@ pub fn declaration_body(production: DeclarationProduction) -> &'static [Item]
             Item::Do(Action::Annotate(AnnotationAction::AndAnnotation)),
             Item::Read(Symbol::Annotations),
         ],
-        DeclarationProduction::NoAnnotations => &[],
         DeclarationProduction::AnnotationOf => &[
             Item::Take(Word::At, Effect::Passes),
             Item::Do(Action::Token(TokenAction::Place)),
@@ -467,7 +452,6 @@ pub fn declaration_body(production: DeclarationProduction) -> &'static [Item]
             Item::Read(Symbol::AnnotationValues),
             Item::Take(Word::CloseParen, Effect::Passes),
         ],
-        DeclarationProduction::NoAnnotationArguments => &[],
         DeclarationProduction::NamedValues => &[
             Item::Take(Word::Ident, Effect::Assigns),
             Item::Do(Action::Token(TokenAction::Name)),
@@ -477,7 +461,6 @@ pub fn declaration_body(production: DeclarationProduction) -> &'static [Item]
             Item::Read(Symbol::OtherValue),
             Item::Do(Action::Annotate(AnnotationAction::SingleValue)),
         ],
-        DeclarationProduction::NoValues => &[],
         DeclarationProduction::PairOf => &[
             Item::Take(Word::Assign, Effect::Passes),
             Item::Read(Symbol::Value),
@@ -504,7 +487,6 @@ pub fn declaration_body(production: DeclarationProduction) -> &'static [Item]
             Item::Do(Action::Annotate(AnnotationAction::Pair)),
             Item::Read(Symbol::MorePairs),
         ],
-        DeclarationProduction::LastPair => &[],
         DeclarationProduction::ValueOfName => &[
             Item::Take(Word::Ident, Effect::Assigns),
             Item::Do(Action::Token(TokenAction::Name)),
@@ -543,17 +525,36 @@ pub fn declaration_body(production: DeclarationProduction) -> &'static [Item]
             Item::Read(Symbol::MoreValues),
         ],
         DeclarationProduction::OnlyComma => &[Item::Take(Word::Comma, Effect::Passes)],
-        DeclarationProduction::EmptyList => &[],
         DeclarationProduction::AndComma => &[
             Item::Take(Word::Comma, Effect::Passes),
             Item::Read(Symbol::AfterComma),
         ],
-        DeclarationProduction::LastValue => &[],
         DeclarationProduction::AndValue => &[
             Item::Read(Symbol::Value),
             Item::Do(Action::Annotate(AnnotationAction::AndValue)),
             Item::Read(Symbol::MoreValues),
         ],
-        DeclarationProduction::TrailingComma => &[],
+        // Nothing stands there.
+        DeclarationProduction::NoSection
+        | DeclarationProduction::NoImport
+        | DeclarationProduction::NameEnd
+        | DeclarationProduction::LastName
+        | DeclarationProduction::NoType
+        | DeclarationProduction::NoModifier
+        | DeclarationProduction::NoVariableModifier
+        | DeclarationProduction::NoFinalModifier
+        | DeclarationProduction::NoMember
+        | DeclarationProduction::NoParameter
+        | DeclarationProduction::LastParameter
+        | DeclarationProduction::NoBrackets
+        | DeclarationProduction::LastVariable
+        | DeclarationProduction::NoInterfaceMember
+        | DeclarationProduction::NoAnnotations
+        | DeclarationProduction::NoAnnotationArguments
+        | DeclarationProduction::NoValues
+        | DeclarationProduction::LastPair
+        | DeclarationProduction::EmptyList
+        | DeclarationProduction::LastValue
+        | DeclarationProduction::TrailingComma => &[],
     }
 }

@@ -62,7 +62,6 @@ pub fn expression_body(production: ExpressionProduction) -> &'static [Item]
             Item::Read(Symbol::ExpressionTail),
         ],
         ExpressionProduction::SomeTailOf => &[Item::Read(Symbol::SomeTail)],
-        ExpressionProduction::NoTail => &[],
         ExpressionProduction::AssignTail => &[
             Item::Take(Word::Assign, Effect::Passes),
             Item::Do(Action::Token(TokenAction::Place)),
@@ -96,7 +95,6 @@ pub fn expression_body(production: ExpressionProduction) -> &'static [Item]
         ],
         ExpressionProduction::ChoiceTail => &[Item::Read(Symbol::SomeChoice)],
         ExpressionProduction::ChoiceOf => &[Item::Read(Symbol::SomeChoice)],
-        ExpressionProduction::NoChoice => &[],
         ExpressionProduction::Conditional => &[
             Item::Take(Word::Question, Effect::Passes),
             Item::Do(Action::Token(TokenAction::Place)),
@@ -322,7 +320,6 @@ pub fn expression_body(production: ExpressionProduction) -> &'static [Item]
             Item::Do(Action::Token(TokenAction::Increment)),
             Item::Read(Symbol::Steps),
         ],
-        ExpressionProduction::NoStep => &[],
         ExpressionProduction::FieldSuffix => &[
             Item::Take(Word::Dot, Effect::Passes),
             Item::Take(Word::Ident, Effect::Assigns),
@@ -339,7 +336,6 @@ pub fn expression_body(production: ExpressionProduction) -> &'static [Item]
             Item::Do(Action::Compute(ExpressionAction::Index)),
             Item::Read(Symbol::Suffixes),
         ],
-        ExpressionProduction::NoSuffix => &[],
         ExpressionProduction::SomeCall => &[
             Item::Read(Symbol::Arguments),
             Item::Do(Action::Compute(ExpressionAction::SomeCall)),
@@ -356,14 +352,12 @@ pub fn expression_body(production: ExpressionProduction) -> &'static [Item]
             Item::Do(Action::Compute(ExpressionAction::AndExpression)),
             Item::Read(Symbol::MoreArguments),
         ],
-        ExpressionProduction::NoArgument => &[],
         ExpressionProduction::AndArgument => &[
             Item::Take(Word::Comma, Effect::Passes),
             Item::Read(Symbol::Expression),
             Item::Do(Action::Compute(ExpressionAction::AndExpression)),
             Item::Read(Symbol::MoreArguments),
         ],
-        ExpressionProduction::LastArgument => &[],
         ExpressionProduction::SuperPrimary => &[
             Item::Take(Word::Super, Effect::Passes),
             Item::Take(Word::Dot, Effect::Passes),
@@ -429,6 +423,13 @@ pub fn expression_body(production: ExpressionProduction) -> &'static [Item]
             Item::Do(Action::Compute(ExpressionAction::Selector)),
             Item::Read(Symbol::Suffixes),
         ],
-        ExpressionProduction::NoArrayField => &[],
+        // Nothing stands there.
+        ExpressionProduction::NoTail
+        | ExpressionProduction::NoChoice
+        | ExpressionProduction::NoStep
+        | ExpressionProduction::NoSuffix
+        | ExpressionProduction::NoArgument
+        | ExpressionProduction::LastArgument
+        | ExpressionProduction::NoArrayField => &[],
     }
 }

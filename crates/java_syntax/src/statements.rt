@@ -25,7 +25,6 @@ pub fn statement_body(production: StatementProduction) -> &'static [Item]
             Item::Do(Action::State(StatementAction::AndStatement)),
             Item::Read(Symbol::Statements),
         ],
-        StatementProduction::NoStatement => &[],
         StatementProduction::SuperStatement => &[
             Item::Take(Word::Super, Effect::Passes),
             Item::Do(Action::Token(TokenAction::Place)),
@@ -345,7 +344,6 @@ pub fn statement_body(production: StatementProduction) -> &'static [Item]
             Item::Do(Action::Compute(ExpressionAction::AndExpression)),
             Item::Read(Symbol::MoreActions),
         ],
-        StatementProduction::LastAction => &[],
         StatementProduction::PlainTry => &[Item::Read(Symbol::Block), Item::Read(Symbol::Handlers)],
         StatementProduction::ResourceTry => &[
             Item::Take(Word::OpenParen, Effect::Passes),
@@ -369,7 +367,6 @@ pub fn statement_body(production: StatementProduction) -> &'static [Item]
             Item::Do(Action::State(StatementAction::TryFinally)),
         ],
         StatementProduction::AndCatch => &[Item::Read(Symbol::Catch), Item::Read(Symbol::Catches)],
-        StatementProduction::NoCatch => &[],
         StatementProduction::SomeFinally => &[
             Item::Read(Symbol::Finally),
             Item::Do(Action::State(StatementAction::TryFinally)),
@@ -400,7 +397,6 @@ pub fn statement_body(production: StatementProduction) -> &'static [Item]
             Item::Do(Action::State(StatementAction::AndName)),
             Item::Read(Symbol::CatchNames),
         ],
-        StatementProduction::LastCatchName => &[],
         StatementProduction::ResourceOf => &[
             Item::Do(Action::Annotate(AnnotationAction::NoModifiers)),
             Item::Read(Symbol::VariableModifiers),
@@ -415,12 +411,10 @@ pub fn statement_body(production: StatementProduction) -> &'static [Item]
             Item::Take(Word::Semicolon, Effect::Passes),
             Item::Read(Symbol::AfterResource),
         ],
-        StatementProduction::LastResource => &[],
         StatementProduction::AndResource => &[
             Item::Read(Symbol::Resource),
             Item::Read(Symbol::MoreResources),
         ],
-        StatementProduction::TrailingSemicolon => &[],
         StatementProduction::NamedAction => &[
             Item::Take(Word::Ident, Effect::Assigns),
             Item::Do(Action::Token(TokenAction::Name)),
@@ -464,7 +458,6 @@ pub fn statement_body(production: StatementProduction) -> &'static [Item]
             Item::Read(Symbol::StatementTail),
         ],
         StatementProduction::ActionTail => &[Item::Read(Symbol::SomeAction)],
-        StatementProduction::CallTail => &[],
         StatementProduction::AssignAction => &[
             Item::Take(Word::Assign, Effect::Passes),
             Item::Do(Action::Token(TokenAction::Place)),
@@ -482,5 +475,13 @@ pub fn statement_body(production: StatementProduction) -> &'static [Item]
             Item::Do(Action::Token(TokenAction::Increment)),
             Item::Read(Symbol::Steps),
         ],
+        // Nothing stands there.
+        StatementProduction::NoStatement
+        | StatementProduction::LastAction
+        | StatementProduction::NoCatch
+        | StatementProduction::LastCatchName
+        | StatementProduction::LastResource
+        | StatementProduction::TrailingSemicolon
+        | StatementProduction::CallTail => &[],
     }
 }

@@ -14,6 +14,18 @@ use Rattle.java_words.specs.declared.meanings.Meaning.TheVariants as meaning
 abbrev pub is_listed : List (List ℕ) → List ℕ → Bool
 is_listed words word = list_any (λ listed. bytes_eq listed word) words
 
+-- the texts of the rows
+abbrev pub texts_of : List (List ℕ × Word × Meaning) → List (List ℕ)
+texts_of rows = map (λ row. row.0) rows
+
+-- the texts with the class beside each
+abbrev pub classes_of : List (List ℕ × Word × Meaning) → List (List ℕ × Word)
+classes_of rows = map (λ row. (row.0, row.1)) rows
+
+-- the texts with the meaning beside each
+abbrev pub meanings_of : List (List ℕ × Word × Meaning) → List (List ℕ × Meaning)
+meanings_of rows = map (λ row. (row.0, row.2)) rows
+
 -- the reserved words (JLS 3.9) that the subset uses
 abbrev pub reserved_word_rows : List (List ℕ × Word × Meaning)
 reserved_word_rows = (codes "abstract", word.Abstract, meaning.Plain) ∷ (codes "boolean", word.Primitive, meaning.Primitive primitive.Boolean) ∷ (codes "break", word.Break, meaning.Plain)

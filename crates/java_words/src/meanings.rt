@@ -1,7 +1,7 @@
 use java_syntax::{InfixOperator, PrefixOperator, PrimitiveName, StepOperator};
 
 /// What a listed text means beyond its class in the grammar.
-#[derive(Copy, Clone, PartialEq, Eq)]
+#[derive(Copy, Clone)]
 pub enum Meaning {
     /// Nothing: the class alone says what it is.
     Plain,

@@ -1,7 +1,7 @@
 ghost use Rattle.std.specs.Prelude.{◌≡◌, map};
 ghost use Rattle.std.specs.List.{list_any};
 ghost use Rattle.std.specs.Str.{bytes_eq};
-ghost use Rattle.java_words.specs.Words.{is_listed, reserved_words, left_out_words, value_words, separators, operators, reserved_word_classes, separator_classes, operator_classes, reserved_word_meanings, operator_meanings, class_in, meaning_in, longest_listed};
+ghost use Rattle.java_words.specs.Words.{is_listed, texts_of, classes_of, meanings_of, reserved_word_rows, separator_rows, operator_rows, reserved_words, left_out_words, value_words, separators, operators, reserved_word_classes, separator_classes, operator_classes, reserved_word_meanings, operator_meanings, class_in, meaning_in, longest_listed};
 
 use crate::meanings::Meaning;
 use java_syntax::{InfixOperator, PrefixOperator, PrimitiveName, StepOperator, Word};
@@ -10,7 +10,7 @@ use java_syntax::{InfixOperator, PrefixOperator, PrimitiveName, StepOperator, Wo
 type Row = (&'static [u8], Word, Meaning);
 
 /// The reserved words that the subset uses (JLS 3.9).
-const RESERVED_WORDS: [Row; 35] = [
+const RESERVED_WORDS: &[Row] = &[
     (b"abstract", Word::Abstract, Meaning::Plain),
     (
         b"boolean",
@@ -92,7 +92,7 @@ const LEFT_OUT_WORDS: [&[u8]; 16] = [
 const VALUE_WORDS: [&[u8]; 3] = [b"true", b"false", b"null"];
 
 /// The separators (JLS 3.11).
-const SEPARATORS: [Row; 12] = [
+const SEPARATORS: &[Row] = &[
     (b"(", Word::OpenParen, Meaning::Plain),
     (b")", Word::CloseParen, Meaning::Plain),
     (b"{", Word::OpenBrace, Meaning::Plain),
@@ -108,7 +108,7 @@ const SEPARATORS: [Row; 12] = [
 ];
 
 /// The operators (JLS 3.12).
-const OPERATORS: [Row; 38] = [
+const OPERATORS: &[Row] = &[
     (b"=", Word::Assign, Meaning::Plain),
     (b"?", Word::Question, Meaning::Plain),
     (b":", Word::Colon, Meaning::Plain),
@@ -181,6 +181,27 @@ const OPERATORS: [Row; 38] = [
     (b">>>=", Word::Compound, Meaning::Plain),
 ];
 
+/// The rows of the reserved words that the subset uses.
+fn reserved_rows() -> &'static [Row]
+    ensures { map (λ row. (row.0.now, row.1, row.2)) result.now ≡ reserved_word_rows }
+{
+    RESERVED_WORDS
+}
+
+/// The rows of the separators.
+fn separator_rows() -> &'static [Row]
+    ensures { map (λ row. (row.0.now, row.1, row.2)) result.now ≡ separator_rows }
+{
+    SEPARATORS
+}
+
+/// The rows of the operators.
+fn operator_rows() -> &'static [Row]
+    ensures { map (λ row. (row.0.now, row.1, row.2)) result.now ≡ operator_rows }
+{
+    OPERATORS
+}
+
 /// Whether the word is one of those listed.
 fn is_listed(words: &[&[u8]], word: &[u8]) -> bool
     ensures { result ≡ list_any (λ listed. bytes_eq listed.now word.now) words.now }
@@ -190,14 +211,19 @@ fn is_listed(words: &[&[u8]], word: &[u8]) -> bool
 
 /// Whether the word stands in a row of the table.
 fn is_in(table: &[Row], word: &[u8]) -> bool
-    ensures { result ≡ list_any (λ row. bytes_eq row.0.now word.now) table.now }
+    ensures { result ≡ is_listed (texts_of (map (λ row. (row.0.now, row.1, row.2)) table.now)) word.now }
 {
-    table.iter().any(|row| row.0 == word)
+    for row in table {
+        if row.0 == word {
+            return true;
+        }
+    }
+    false
 }
 
 /// The length of the longest word of the table that the text begins with, and 0 where none does.
 fn longest_listed(table: &[Row], text: &[u8]) -> usize
-    ensures { result ≡ longest_listed (map (λ row. row.0.now) table.now) text.now }
+    ensures { result ≡ longest_listed (texts_of (map (λ row. (row.0.now, row.1, row.2)) table.now)) text.now }
 {
     let mut longest = 0;
     for row in table {
@@ -210,7 +236,7 @@ fn longest_listed(table: &[Row], text: &[u8]) -> usize
 
 /// The class that stands beside the word in the table, and `Word::Other` where the word stands in no row.
 fn class_in(table: &[Row], word: &[u8]) -> Word
-    ensures { result ≡ class_in (map (λ row. (row.0.now, row.1)) table.now) word.now }
+    ensures { result ≡ class_in (classes_of (map (λ row. (row.0.now, row.1, row.2)) table.now)) word.now }
 {
     for row in table {
         if row.0 == word {
@@ -222,7 +248,7 @@ fn class_in(table: &[Row], word: &[u8]) -> Word
 
 /// What the word means beside its class by the table, and `Meaning::Plain` where the word stands in no row.
 fn meaning_in(table: &[Row], word: &[u8]) -> Meaning
-    ensures { result ≡ meaning_in (map (λ row. (row.0.now, row.2)) table.now) word.now }
+    ensures { result ≡ meaning_in (meanings_of (map (λ row. (row.0.now, row.1, row.2)) table.now)) word.now }
 {
     for row in table {
         if row.0 == word {
@@ -236,8 +262,7 @@ fn meaning_in(table: &[Row], word: &[u8]) -> Meaning
 pub fn is_reserved(word: &[u8]) -> bool
     ensures { result ≡ is_listed reserved_words word.now }
 {
-    let table: [Row; 35] = RESERVED_WORDS;
-    is_in(table.as_slice(), word)
+    is_in(reserved_rows(), word)
 }
 
 /// Whether it is a reserved word that the subset leaves out.
@@ -260,54 +285,47 @@ pub fn is_value(word: &[u8]) -> bool
 pub fn separator_len(text: &[u8]) -> usize
     ensures { result ≡ longest_listed separators text.now }
 {
-    let table: [Row; 12] = SEPARATORS;
-    longest_listed(table.as_slice(), text)
+    longest_listed(separator_rows(), text)
 }
 
 /// The length of the longest operator that the text begins with, and 0 where none does.
 pub fn operator_len(text: &[u8]) -> usize
     ensures { result ≡ longest_listed operators text.now }
 {
-    let table: [Row; 38] = OPERATORS;
-    longest_listed(table.as_slice(), text)
+    longest_listed(operator_rows(), text)
 }
 
 /// The grammar's class of a reserved word.
 pub fn reserved_word_class(word: &[u8]) -> Word
     ensures { result ≡ class_in reserved_word_classes word.now }
 {
-    let table: [Row; 35] = RESERVED_WORDS;
-    class_in(table.as_slice(), word)
+    class_in(reserved_rows(), word)
 }
 
 /// The grammar's class of a separator.
 pub fn separator_class(word: &[u8]) -> Word
     ensures { result ≡ class_in separator_classes word.now }
 {
-    let table: [Row; 12] = SEPARATORS;
-    class_in(table.as_slice(), word)
+    class_in(separator_rows(), word)
 }
 
 /// The grammar's class of an operator.
 pub fn operator_class(word: &[u8]) -> Word
     ensures { result ≡ class_in operator_classes word.now }
 {
-    let table: [Row; 38] = OPERATORS;
-    class_in(table.as_slice(), word)
+    class_in(operator_rows(), word)
 }
 
 /// What a reserved word means beyond its class.
 pub fn reserved_word_meaning(word: &[u8]) -> Meaning
     ensures { result ≡ meaning_in reserved_word_meanings word.now }
 {
-    let table: [Row; 35] = RESERVED_WORDS;
-    meaning_in(table.as_slice(), word)
+    meaning_in(reserved_rows(), word)
 }
 
 /// What an operator means beyond its class.
 pub fn operator_meaning(word: &[u8]) -> Meaning
     ensures { result ≡ meaning_in operator_meanings word.now }
 {
-    let table: [Row; 38] = OPERATORS;
-    meaning_in(table.as_slice(), word)
+    meaning_in(operator_rows(), word)
 }

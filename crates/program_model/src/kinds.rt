@@ -6,7 +6,7 @@
 pub struct ClassId(pub u32);
 
 /// A method, constructor or library constant: its place in `Program::methods`.
-#[derive(Clone, Copy, Debug, PartialEq, Eq, Hash)]
+#[derive(Clone, Copy, Debug, PartialEq, Eq)]
 pub struct MethodId(pub u32);
 
 /// A field of a program class: its place in `Program::fields`.
@@ -14,19 +14,19 @@ pub struct MethodId(pub u32);
 pub struct FieldId(pub u32);
 
 /// The body of a method or constructor: its place in `Program::bodies`.
-#[derive(Clone, Copy, Debug, PartialEq, Eq, Hash)]
+#[derive(Clone, Copy)]
 pub struct BodyId(pub u32);
 
 /// A typed statement: its place in `Body::statements` of its body.
-#[derive(Clone, Copy, Debug, PartialEq, Eq, Hash)]
+#[derive(Clone, Copy, PartialEq, Eq, Hash)]
 pub struct StmtId(pub u32);
 
 /// A typed expression: its place in `Body::expressions` of its body.
-#[derive(Clone, Copy, Debug, PartialEq, Eq, Hash)]
+#[derive(Clone, Copy, PartialEq, Eq, Hash)]
 pub struct ExprId(pub u32);
 
 /// The primitive types (JLS 4.2) of the subset.
-#[derive(Clone, Copy, Debug, PartialEq, Eq, Hash)]
+#[derive(Clone, Copy, PartialEq, Eq)]
 pub enum Primitive {
     Boolean,
     Byte,
@@ -36,14 +36,14 @@ pub enum Primitive {
 }
 
 /// What an array holds: a primitive type, or texts.
-#[derive(Clone, Copy, Debug, PartialEq, Eq, Hash)]
+#[derive(Clone, Copy, PartialEq, Eq)]
 pub enum ElementType {
     Primitive(Primitive),
     Str,
 }
 
 /// A type (JLS 4.1).
-#[derive(Clone, Copy, Debug, PartialEq, Eq, Hash)]
+#[derive(Clone, Copy, PartialEq, Eq)]
 pub enum VType {
     Primitive(Primitive),
     /// `java.lang.String`, which is never written `Obj`.
@@ -57,7 +57,7 @@ pub enum VType {
 }
 
 /// What kind of member a method of the table is.
-#[derive(Clone, Copy, Debug, PartialEq, Eq, Hash)]
+#[derive(Clone, Copy, PartialEq, Eq)]
 pub enum MethodKind {
     Instance,
     Static,
@@ -69,7 +69,7 @@ pub enum MethodKind {
 }
 
 /// On what a promise of called methods speaks.
-#[derive(Clone, Copy, Debug, PartialEq, Eq, Hash)]
+#[derive(Clone, Copy)]
 pub enum Target {
     /// The receiver at 0, and the k-th declared parameter at k.
     At(u32),
@@ -78,7 +78,7 @@ pub enum Target {
 }
 
 /// A literal (JLS 15.8.1), `null` included.
-#[derive(Clone, Copy, Debug, PartialEq, Eq, Hash)]
+#[derive(Clone, Copy, PartialEq, Eq)]
 pub enum Literal {
     /// An `int` or a `long`, with its sign where it stands under a unary minus that belongs to a static field's value.
     Number(i64),
@@ -91,7 +91,7 @@ pub enum Literal {
 }
 
 /// The operators of unary expressions (JLS 15.15.3 to 15.15.6). An increment is no unary expression here.
-#[derive(Clone, Copy, Debug, PartialEq, Eq, Hash)]
+#[derive(Clone, Copy, PartialEq, Eq)]
 pub enum UnaryOperator {
     Plus,
     Minus,
@@ -102,7 +102,7 @@ pub enum UnaryOperator {
 }
 
 /// The operators of binary expressions and operator assignments (JLS 15.17 to 15.24, 15.26.2).
-#[derive(Clone, Copy, Debug, PartialEq, Eq, Hash)]
+#[derive(Clone, Copy, PartialEq, Eq)]
 pub enum BinaryOperator {
     Multiply,
     Divide,
@@ -133,7 +133,7 @@ pub enum BinaryOperator {
 }
 
 /// The type to which a binary operator takes its operands (JLS 5.6): for a shift the promoted type of the left one.
-#[derive(Clone, Copy, Debug, PartialEq, Eq, Hash)]
+#[derive(Clone, Copy, PartialEq, Eq)]
 pub enum OperandType {
     Boolean,
     Int,

@@ -23,7 +23,7 @@ pub struct Program {
 
 /// The classes of `java.lang` that the language itself names: the root of all classes (JLS 4.3.2), the type of string
 /// literals, the roots of the exceptions (JLS 11.1.1), and those that operators throw (JLS 15.6).
-#[derive(Clone, Copy, Debug, PartialEq, Eq)]
+#[derive(Clone, Copy)]
 pub struct CoreClasses {
     pub object: ClassId,
     pub string: ClassId,
@@ -140,7 +140,7 @@ pub struct ParamSig {
 }
 
 /// A promise that named methods are called on a target.
-#[derive(Clone, Copy, Debug, PartialEq, Eq)]
+#[derive(Clone, Copy)]
 pub struct Promise {
     pub target: Target,
     pub names: NameSet,

@@ -21,12 +21,11 @@ use std::alloc::{AllocError, Global};
 const MOST: usize = 2_000_000;
 
 // How many tokens were read, where these are not all.
-fn write_read(out: &mut Printer, behind: usize, count: usize) -> Result<(), AllocError> {
+fn write_read(out: &mut Printer, behind: usize, count: usize) {
     if behind < count {
-        out.bare("up to")?;
-        out.number(behind)?;
+        out.bare("up to");
+        out.number(behind);
     }
-    Ok(())
 }
 
 // The bytes of a token.
@@ -35,20 +34,18 @@ fn bytes_of(text: &[u8], token: Token) -> &[u8] {
     rest.get(..token.len as usize).unwrap_or(rest)
 }
 
-fn write_tokens(out: &mut Printer, source: &Source) -> Result<(), Stop> {
+fn write_tokens(out: &mut Printer, source: &Source) {
     for token in source.tokens {
         let text = str::from_utf8(bytes_of(source.bytes, *token)).unwrap_or("?");
-        out.word(text, token.pos)?;
+        out.word(text, token.pos);
     }
-    Ok(())
 }
 
-fn write_classes(out: &mut Printer, source: &Source) -> Result<(), Stop> {
+fn write_classes(out: &mut Printer, source: &Source) {
     for token in source.tokens {
-        out.bare(class_word(token.word))?;
-        out.span(token.start, token.len, token.pos)?;
+        out.bare(class_word(token.word));
+        out.span(token.start, token.len, token.pos);
     }
-    Ok(())
 }
 
 fn write_front_expression(
@@ -60,8 +57,8 @@ fn write_front_expression(
     requires { length source.now.bytes.now < 2 ^ 32 - 1 }
 {
     let (expression, behind) = parse_expr(alloc, source, 0, level)?;
-    write_expression(out, &expression)?;
-    write_read(out, behind, source.tokens.len())?;
+    write_expression(out, &expression);
+    write_read(out, behind, source.tokens.len());
     Ok(())
 }
 
@@ -69,8 +66,8 @@ fn write_front_type(alloc: Global, out: &mut Printer, source: &Source) -> Result
     requires { length source.now.bytes.now < 2 ^ 32 - 1 }
 {
     let (typ, behind) = parse_type(alloc, source, 0)?;
-    write_type(out, &typ)?;
-    write_read(out, behind, source.tokens.len())?;
+    write_type(out, &typ);
+    write_read(out, behind, source.tokens.len());
     Ok(())
 }
 
@@ -84,9 +81,9 @@ fn write_front_annotations(
 {
     let (annotations, behind) = parse_annos(alloc, source, 0, level)?;
     for annotation in &annotations {
-        write_annotation(out, annotation)?;
+        write_annotation(out, annotation);
     }
-    write_read(out, behind, source.tokens.len())?;
+    write_read(out, behind, source.tokens.len());
     Ok(())
 }
 
@@ -105,24 +102,24 @@ fn only_statements(unit: &Unit) -> Option<&[Stmt]> {
 }
 
 // The statements of the one method of a file.
-fn write_statements(out: &mut Printer, unit: &Unit) -> Result<(), AllocError> {
-    let Some(statements) = only_statements(unit) else {
-        return out.bare("not one method");
-    };
-    for statement in statements {
-        write_statement(out, statement)?;
+fn write_statements(out: &mut Printer, unit: &Unit) {
+    match only_statements(unit) {
+        None => out.bare("not one method"),
+        Some(statements) => {
+            for statement in statements {
+                write_statement(out, statement);
+            }
+        }
     }
-    Ok(())
 }
 
 // The members of the classes of a file.
-fn write_members(out: &mut Printer, unit: &Unit) -> Result<(), AllocError> {
+fn write_members(out: &mut Printer, unit: &Unit) {
     for class in &unit.types {
         for member in &class.members {
-            write_member(out, member)?;
+            write_member(out, member);
         }
     }
-    Ok(())
 }
 
 // What is written of the tree of a file.
@@ -131,10 +128,10 @@ fn write_file(alloc: Global, out: &mut Printer, source: &Source, kind: Kind) -> 
 {
     let unit = parse_unit(alloc, source)?;
     match kind {
-        Kind::Statements => write_statements(out, &unit)?,
-        Kind::Members => write_members(out, &unit)?,
-        Kind::FileTaken => out.bare("taken")?,
-        _ => write_unit(out, &unit)?,
+        Kind::Statements => write_statements(out, &unit),
+        Kind::Members => write_members(out, &unit),
+        Kind::FileTaken => out.bare("taken"),
+        _ => write_unit(out, &unit),
     }
     Ok(())
 }
@@ -144,7 +141,7 @@ fn write_stub_file(alloc: Global, out: &mut Printer, source: &Source) -> Result<
     requires { length source.now.bytes.now < 2 ^ 32 - 1 }
 {
     for unit in &parse_stub(alloc, source)? {
-        write_unit(out, unit)?;
+        write_unit(out, unit);
     }
     Ok(())
 }
@@ -159,8 +156,14 @@ fn write_answer(alloc: Global, out: &mut Printer, texts: &Texts, bytes: &[u8]) -
         tokens: tokens.as_slice(),
     };
     match texts.kind {
-        Kind::Tokens => write_tokens(out, &source),
-        Kind::ClassesOfTokens => write_classes(out, &source),
+        Kind::Tokens => {
+            write_tokens(out, &source);
+            Ok(())
+        }
+        Kind::ClassesOfTokens => {
+            write_classes(out, &source);
+            Ok(())
+        }
         Kind::Expression => write_front_expression(alloc, out, &source, texts.level),
         Kind::Type => write_front_type(alloc, out, &source),
         Kind::Annotations => write_front_annotations(alloc, out, &source, texts.level),
@@ -187,7 +190,7 @@ pub fn answer(alloc: Global, texts: &Texts, text: &[u8]) -> Result<String, FormF
     }
     let mut out = Printer::new(alloc, texts.with_places);
     match write_answer(alloc, &mut out, texts, &bytes) {
-        Ok(()) => Ok(out.into_text()),
+        Ok(()) => out.into_text().ok_or(FormFail::NoMemory),
         Err(Stop::Refused(refusal)) => {
             let (number, pos) = (refusal.code.number(), refusal.pos);
             Ok(format!(in alloc; "{number} {}:{}", pos.line, pos.col)?)

@@ -4,7 +4,7 @@ use case_files::FormFail;
 use std::alloc::Global;
 
 /// What a text is read as.
-#[derive(Clone, Copy, Debug, PartialEq, Eq)]
+#[derive(Clone, Copy)]
 pub enum Kind {
     /// Tokens, which are written with a blank between them.
     Tokens,

@@ -8,4 +8,4 @@ loop-action-init c = ([], refl, sym (append-nil _), refl)
 pub loop-action-preserved : goal.loop-action-preserved
 loop-action-preserved c =
     let i = c.loop-action.invariant in
-    (i.0 ++ c.in-Some.action ∷ [], came_more _ i.0 c.in-Some.action _ _ i.1 c.in-Some.ensures, events_more _ _ _ i.0 c.in-Some.action i.2 c.in_ok-push.ensures.items, i.3)
+    (i.0 ++ c.in-Some.action ∷ [], came_more _ i.0 c.in-Some.action _ _ i.1 c.in-Some.ensures, events_more _ _ _ i.0 c.in-Some.action i.2 c.in_ok-append.ensures, i.3)

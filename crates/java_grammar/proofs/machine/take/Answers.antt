@@ -39,7 +39,7 @@ returns c = λ o start used h.
     let es = map (step_of b) c.settle.new.machine.events.items in
     let a = kept b (Some t.word) c.args.machine.now c.settle.new.machine c.in_ok-settle.field-0 c.in_ok-settle.ensures c.if-not-branch.false in
     let w = same_is c.in-Some.word t.word (sym c.is_same.ensures ∙ c.if-not-is_same.false) in
-    rw (c.in_ok-push.ensures.items, map-append (step_of b) c.settle.new.machine.events.items (event.Took t ∷ []), c.advance-machine.ensures b)
+    rw (c.in_ok-append.ensures, map-append (step_of b) c.settle.new.machine.events.items (event.Took t ∷ []), c.advance-machine.ensures b)
     (goes_over o start used s (reverse c.pop_word.new.stack.items) es c.in-Some.word c.in-Some.effect (lexeme_of b t)
     (subst (λ v. Reached o start used (StartsWith (Some v)) s (Take c.in-Some.word c.in-Some.effect ∷ reverse c.pop_word.new.stack.items) es) (sym w)
     (subst (λ is. Reached o start used (StartsWith (Some t.word)) s is es)
