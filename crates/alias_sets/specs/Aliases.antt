@@ -6,7 +6,7 @@ use Rattle.control_actions.specs.declared.action.Action.TheVariants as actions
 use Rattle.control_actions.specs.declared.action.Edge.{Edge}
 use Rattle.control_actions.specs.declared.action.Edge.TheVariants as edges
 use Rattle.control_actions.specs.declared.place.Place.TheVariants as places
-use Rattle.action_effects.specs.Calls.{operand_at, is_reset_of_this}
+use Rattle.control_actions.specs.Calls.{operand_at, is_reset_of_this}
 use Rattle.obligation_facts.specs.Callees.{callee}
 use Rattle.obligation_facts.specs.Facts.{PlaceSet, has_temp, with_place, without, without_temps, without_parts}
 use Rattle.must_call_sets.specs.Bodies.{alias_in}

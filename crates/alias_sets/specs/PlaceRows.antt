@@ -11,8 +11,8 @@ use Rattle.control_actions.specs.declared.action.Edge.{Edge}
 use Rattle.control_actions.specs.declared.action.Edge.TheVariants as edges
 use Rattle.control_actions.specs.declared.place.Place.{Place}
 use Rattle.control_actions.specs.declared.place.Place.TheVariants as places
-use Rattle.action_effects.specs.Calls.{completion_temp}
-use Rattle.action_effects.specs.Sources.{is_null_pointer}
+use Rattle.control_actions.specs.Calls.{completion_temp}
+use Rattle.control_actions.specs.Sources.{is_null_pointer}
 use Rattle.control_actions.specs.Owned.{place_of_field}
 use Rattle.obligation_facts.specs.Facts.{PlaceSet, has, has_temp, with_place, without, without_temps, without_scope}
 use Rattle.alias_sets.specs.Aliases.{called_places}

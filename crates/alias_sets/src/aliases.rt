@@ -6,8 +6,7 @@ ghost use Rattle.obligation_facts.specs.SmallActions.{IsSmallAction};
 ghost use Rattle.must_call_sets.specs.Bodies.{alias_in};
 ghost use Rattle.alias_sets.specs.Aliases.{called_places, gives_alias, without_operands, without_reset};
 
-use action_effects::is_reset_of_this;
-use control_actions::{Action, Edge, Place, Places};
+use control_actions::{Action, Edge, Place, Places, is_reset_of_this};
 use obligation_facts::{callee, holds_operand, without_parts, without_temps};
 use program_model::Program;
 

@@ -7,8 +7,7 @@ ghost use Rattle.obligation_facts.specs.SmallActions.{IsSmallAction, IsSmallScop
 ghost use Rattle.alias_sets.specs.PlaceRows.{below, cast, copied, dropped, entered, places_after, raised, settled, stored};
 
 use crate::aliases::called_places;
-use action_effects::completion_temp;
-use control_actions::{Action, Edge, Place, Places, Scope, field_place};
+use control_actions::{Action, Edge, Place, Places, Scope, completion_temp, field_place};
 use obligation_facts::{has_temp, without_scope, without_temps};
 use program_model::{BodyId, Program};
 

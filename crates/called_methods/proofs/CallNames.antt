@@ -10,7 +10,7 @@ use Rattle.program_model.specs.NameSets.{when}
 use Rattle.program_model.proofs.NameLaws.{union_joined, union_none, none_union}
 use Rattle.control_actions.specs.declared.action.Action.{Action}
 use Rattle.obligation_facts.specs.Callees.{callee, callee_in, holds_operand}
-use Rattle.action_effects.specs.Calls.{called_method}
+use Rattle.control_actions.specs.Calls.{called_method}
 use Rattle.obligation_facts.specs.Facts.{PlaceSet}
 use Rattle.must_call_sets.specs.WellFormed.{HasSmallInterests}
 use Rattle.called_methods.specs.CalledRows.{names_below}

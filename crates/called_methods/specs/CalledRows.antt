@@ -15,7 +15,7 @@ use Rattle.control_actions.specs.declared.action.Edge.{Edge}
 use Rattle.control_actions.specs.declared.action.Edge.TheVariants as edges
 use Rattle.control_actions.specs.declared.fact.Fact.{Fact}
 use Rattle.control_actions.specs.declared.place.Place.TheVariants as places
-use Rattle.action_effects.specs.Calls.{is_reset_of_this}
+use Rattle.control_actions.specs.Calls.{is_reset_of_this}
 use Rattle.obligation_facts.specs.Callees.{callee, holds_operand, is_this_target, is_super_target, may_be_null_target}
 use Rattle.control_actions.specs.Owned.{place_of_field}
 use Rattle.obligation_facts.specs.Facts.{PlaceSet, Names, has, has_part, is_held}

@@ -11,8 +11,7 @@ ghost use Rattle.must_call_sets.specs.Signatures.{when};
 ghost use Rattle.must_call_sets.specs.WellFormed.{HasSmallInterests};
 ghost use Rattle.called_methods.specs.CalledRows.{all_names, called_after, called_at_call, called_by, called_on_null, holds_field, holds_receiver, holds_target, interest_in, is_emptied, promised_at, promises_at, with_name};
 
-use action_effects::is_reset_of_this;
-use control_actions::{Action, Edge, Fact, Place, Places, field_place};
+use control_actions::{Action, Edge, Fact, Place, Places, field_place, is_reset_of_this};
 use must_call_sets::has_field_place;
 use obligation_facts::{
     callee, has_part, holds_operand, is_held, is_super_target, is_this_target, may_be_null_target,

@@ -1,15 +1,13 @@
 // Whether an answer is the one that a case wants.
 
-ghost use Rattle.std.specs.Prelude.{◌≡◌, ◌↔◌, IsTrue, IfOk};
+ghost use Rattle.std.specs.Prelude.{◌≡◌, ◌↔◌, IsTrue};
 ghost use Rattle.case_files.specs.Agreement.{IsVerdict};
 
 use crate::answer::Answer;
-use crate::faults::FormFail;
 use crate::reports::{Steps, agree_reports};
-use std::alloc::Global;
 
 /// What of an answer is compared.
-#[derive(Clone, Copy, Debug, PartialEq, Eq)]
+#[derive(Clone, Copy)]
 pub enum Comparison {
     /// The status and the whole text.
     Whole,
@@ -21,23 +19,18 @@ pub enum Comparison {
     Open,
 }
 
-/// Whether the given answer is as wanted. Memory may run out.
-pub fn agrees(
-    alloc: Global,
-    comparison: Comparison,
-    wanted: &Answer,
-    given: &Answer,
-) -> Result<bool, FormFail>
-    ensures { IfOk result (IsVerdict comparison wanted.now given.now) }
+/// Whether the given answer is as wanted.
+pub fn agrees(comparison: Comparison, wanted: &Answer, given: &Answer) -> bool
+    ensures { IsVerdict comparison wanted.now given.now result }
 {
     if wanted.status != given.status {
-        return Ok(false);
+        return false;
     }
     match comparison {
-        Comparison::Whole => Ok(wanted.text == given.text),
-        Comparison::Status => Ok(true),
-        Comparison::Counted => agree_reports(alloc, Steps::Counted, &wanted.text, &given.text),
-        Comparison::Open => agree_reports(alloc, Steps::Open, &wanted.text, &given.text),
+        Comparison::Whole => wanted.text == given.text,
+        Comparison::Status => true,
+        Comparison::Counted => agree_reports(Steps::Counted, &wanted.text, &given.text),
+        Comparison::Open => agree_reports(Steps::Open, &wanted.text, &given.text),
     }
 }
 

@@ -2,7 +2,7 @@ use crate::faults::FormFail;
 use std::io;
 
 /// Why the run of a file of cases was cut short.
-#[derive(Debug, Drop)]
+#[derive(Drop)]
 pub enum Cut {
     /// The file or one of its cases is malformed.
     Form(FormFail),

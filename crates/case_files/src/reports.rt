@@ -1,11 +1,8 @@
 // Reports of faults: a line that names the fault, a line that begins with two blanks and names the origin, and the steps of a
 // control path, a line each, that begin with two blanks.
 
-use crate::faults::FormFail;
-use std::alloc::Global;
-
 /// How the steps of two reports are compared.
-#[derive(Clone, Copy, Debug, PartialEq, Eq)]
+#[derive(Clone, Copy)]
 pub enum Steps {
     /// Their number is the same.
     Counted,
@@ -13,11 +10,20 @@ pub enum Steps {
     Open,
 }
 
-#[derive(Drop)]
+// The first report of a text.
+#[derive(Clone, Copy)]
 struct Report<'a> {
     fault: &'a str,
-    // The origin, and the steps.
-    below: Vec<&'a str>,
+    // The first line below, if there is one.
+    origin: &'a str,
+    // How many lines stand below.
+    count: usize,
+    // The last of them.
+    last: &'a str,
+    // Whether those below the origin are steps.
+    has_steps: bool,
+    // What stands behind the report.
+    rest: &'a str,
 }
 
 // The kinds of steps.
@@ -29,22 +35,49 @@ static KINDS: [&str; 15] = [
 // The outcomes of a step, beside an exception that is thrown.
 static OUTCOMES: [&str; 5] = ["go", "null", "nonnull", "true", "false"];
 
-fn reports_of<'a>(alloc: Global, text: &'a str) -> Result<Vec<Report<'a>>, FormFail> {
-    let mut reports: Vec<Report<'a>> = Vec::new(alloc);
-    for line in text.lines() {
-        match reports.last_mut() {
-            Some(report) if line.starts_with("  ") => report.below.push(line)?,
-            _ => reports.push(Report {
-                fault: line,
-                below: Vec::new(alloc),
-            })?,
-        }
+// The first line of a text, and what stands behind it.
+fn first_line(text: &str) -> (&str, &str) {
+    match text.split_once('\n') {
+        None => (text, ""),
+        Some((line, rest)) => (line.strip_suffix('\r').unwrap_or(line), rest),
     }
-    Ok(reports)
+}
+
+// The first report of a text, whose first line is the fault.
+fn first_report(text: &str) -> Report<'_> {
+    let (fault, rest) = first_line(text);
+    let mut report = Report {
+        fault,
+        origin: "",
+        count: 0,
+        last: "",
+        has_steps: true,
+        rest,
+    };
+    for _ in 0..text.len() {
+        if !report.rest.starts_with("  ") {
+            return report;
+        }
+        let (line, rest) = first_line(report.rest);
+        if report.count == 0 {
+            report.origin = line;
+        } else if !is_step(line) {
+            report.has_steps = false;
+        }
+        report.count = report.count.saturating_add(1);
+        report.last = line;
+        report.rest = rest;
+    }
+    report
 }
 
 fn is_number(word: &str) -> bool {
-    !word.is_empty() && word.bytes().all(|byte| byte.is_ascii_digit())
+    for byte in word.bytes() {
+        if !byte.is_ascii_digit() {
+            return false;
+        }
+    }
+    !word.is_empty()
 }
 
 // LINE:COL
@@ -86,11 +119,7 @@ fn ends_at_fault(report: &Report) -> bool {
     let Some((place, _)) = report.fault.split_once(": ") else {
         return false;
     };
-    let Some((at, _)) = report
-        .below
-        .last()
-        .and_then(|step| step.trim_start().split_once(' '))
-    else {
+    let Some((at, _)) = report.last.trim_start().split_once(' ') else {
         return false;
     };
     match place.strip_suffix(at) {
@@ -99,42 +128,44 @@ fn ends_at_fault(report: &Report) -> bool {
     }
 }
 
-fn has_path(report: &Report) -> bool {
-    match report.below.as_slice() {
-        [] | [_] => false,
-        [_, steps @ ..] => steps.iter().all(|step| is_step(step)) && ends_at_fault(report),
-    }
-}
-
 // Whether two reports have the same first two lines, the second has a path, and their steps are as many where these are counted.
 fn agree(steps: Steps, wanted: &Report, given: &Report) -> bool {
-    wanted.fault == given.fault
-        && wanted.below.first() == given.below.first()
-        && has_path(given)
-        && (steps == Steps::Open || wanted.below.len() == given.below.len())
+    let same_number = match steps {
+        Steps::Open => true,
+        Steps::Counted => wanted.count == given.count,
+    };
+    same_number
+        && wanted.fault == given.fault
+        && wanted.origin == given.origin
+        && 1 < given.count
+        && given.has_steps
+        && ends_at_fault(given)
+}
+
+// Whether the reports of two texts agree, one after the other.
+fn agree_all(steps: Steps, wanted: &str, given: &str) -> bool {
+    let (mut wanted, mut given) = (wanted, given);
+    for _ in 0..wanted.len() {
+        if wanted.is_empty() || given.is_empty() {
+            break;
+        }
+        let (first, other) = (first_report(wanted), first_report(given));
+        if !agree(steps, &first, &other) {
+            return false;
+        }
+        (wanted, given) = (first.rest, other.rest);
+    }
+    wanted.is_empty() && given.is_empty()
 }
 
 /// Whether two lists of reports have the same first two lines, and the second has in each report a path of steps that ends at the
 /// place of the fault.
-pub fn agree_reports(
-    alloc: Global,
-    steps: Steps,
-    wanted: &[u8],
-    given: &[u8],
-) -> Result<bool, FormFail> {
-    let (Ok(wanted), Ok(given)) = (str::from_utf8(wanted), str::from_utf8(given)) else {
-        return Ok(false);
+pub fn agree_reports(steps: Steps, wanted: &[u8], given: &[u8]) -> bool {
+    let Ok(wanted) = str::from_utf8(wanted) else {
+        return false;
     };
-    if !given.ends_with("\n") {
-        return Ok(false);
-    }
-    let wanted = reports_of(alloc, wanted)?;
-    let given = reports_of(alloc, given)?;
-    Ok(
-        wanted.len() == given.len()
-            && wanted
-                .iter()
-                .zip(given.iter())
-                .all(|(wanted, given)| agree(steps, wanted, given)),
-    )
+    let Ok(given) = str::from_utf8(given) else {
+        return false;
+    };
+    given.ends_with('\n') && agree_all(steps, wanted, given)
 }

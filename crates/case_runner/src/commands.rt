@@ -19,7 +19,7 @@ fn print_answer(rt: &impl Print, head: &str, answer: &Answer) -> io::Result<()> 
 fn run_case(rt: &impl Print, alloc: Global, file: &str, case: &Case) -> Result<bool, Cut> {
     let trial = trial_of(alloc, case)?;
     let (comparison, wanted, given) = trial.run(alloc)?;
-    if agrees(alloc, comparison, &wanted, &given)? {
+    if agrees(comparison, &wanted, &given) {
         return Ok(true);
     }
     println!(rt; "=== {file}: {}", case.name)?;

@@ -1,3 +1,4 @@
+pub mod LeavingLaws
 pub mod TableLemmas
 pub mod EqLemmas
 pub mod PushLemmas

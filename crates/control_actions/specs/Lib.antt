@@ -1,3 +1,9 @@
+pub mod Clauses
+pub mod Scopes
+pub mod Calls
+pub mod Sources
+pub mod Exceptions
+pub mod Leaving
 pub mod PlaceNumbers
 pub mod Places
 pub mod Remaining

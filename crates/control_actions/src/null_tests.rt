@@ -1,25 +1,19 @@
 //! Comparisons with the literal `null` (JLS 15.21.3).
 
 ghost use Rattle.std.specs.Prelude.{◌≡◌};
-ghost use Rattle.control_actions.specs.NullTests.{compared_with_null, is_null, is_null_kind};
+ghost use Rattle.control_actions.specs.NullTests.{compared_with_null, is_null};
 
 use program_model::{BinaryExpression, Body, ExprId, ExpressionKind, Literal};
-
-fn is_null_kind(kind: &ExpressionKind) -> bool
-    ensures { result ≡ is_null_kind kind.now }
-{
-    match kind {
-        ExpressionKind::Literal(Literal::Null) => true,
-        _ => false,
-    }
-}
 
 fn is_null(body: &Body, e: ExprId) -> bool
     ensures { result ≡ is_null body.now e }
 {
     match body.expression(e) {
         None => false,
-        Some(found) => is_null_kind(&found.kind),
+        Some(found) => match &found.kind {
+            ExpressionKind::Literal(Literal::Null) => true,
+            _ => false,
+        },
     }
 }
 

@@ -1,7 +1,7 @@
 //! Owning fields that are reached through `this`.
 
 ghost use Rattle.std.specs.Prelude.{◌≡◌, length};
-ghost use Rattle.control_actions.specs.Owned.{declares_field, field_number, fields_beside, has_place, is_owning, is_this, is_this_kind, owning_before, place_of_field};
+ghost use Rattle.control_actions.specs.Owned.{declares_field, field_number, fields_beside, has_place, is_owning, is_this, owning_before, place_of_field};
 ghost use Rattle.program_model.specs.Lookups.{field_at};
 
 use crate::place::Place;
@@ -47,22 +47,16 @@ pub fn field_place(p: &Program, f: FieldId) -> Place
     Place::Field(number as u32)
 }
 
-fn is_this_kind(kind: &ExpressionKind) -> bool
-    ensures { result ≡ is_this_kind kind.now }
-{
-    match kind {
-        ExpressionKind::This(_) => true,
-        _ => false,
-    }
-}
-
 /// Whether the expression is `this`, written or implied.
 pub fn is_this(body: &Body, e: ExprId) -> bool
     ensures { result ≡ is_this body.now e }
 {
     match body.expression(e) {
         None => false,
-        Some(found) => is_this_kind(&found.kind),
+        Some(found) => match &found.kind {
+            ExpressionKind::This(_) => true,
+            _ => false,
+        },
     }
 }
 
@@ -84,13 +78,5 @@ pub fn declares_field(p: &Program, body: &Body, f: FieldId) -> bool
 pub fn has_place(p: &Program, body: &Body, e: ExprId, f: FieldId) -> bool
     ensures { result ≡ has_place p.now body.now e f }
 {
-    if is_this(body, e) {
-        if is_owning(p, f) {
-            declares_field(p, body, f)
-        } else {
-            false
-        }
-    } else {
-        false
-    }
+    is_this(body, e) && is_owning(p, f) && declares_field(p, body, f)
 }

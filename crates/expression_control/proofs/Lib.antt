@@ -1,1 +1,1 @@
-pub mod FlatLemmas
+pub mod OperandLemmas

@@ -2,11 +2,10 @@
 
 ghost use Rattle.std.specs.Prelude.{◌≡◌, ◌++◌, OnOk};
 ghost use Rattle.graph_words.specs.Places.{at_place, completion_word};
-ghost use Rattle.control_actions.specs.declared.action.Completion.TheVariants as completions;
 
 use crate::names::class_word;
 use control_actions::Completion;
-use program_model::{ClassId, Program};
+use program_model::Program;
 use program_texts::{put_line, put_number};
 use rlc_base::{NoMemory, Pos, Text};
 use std::alloc::Global;
@@ -17,39 +16,6 @@ fn put_at(alloc: Global, pos: Pos, into: &mut Text) -> Result<(), NoMemory>
 {
     into.push_bytes(b"@")?;
     put_line(alloc, pos, into)
-}
-
-fn put_returned(
-    alloc: Global,
-    p: &Program,
-    depth: u32,
-    pos: Pos,
-    into: &mut Text,
-) -> Result<(), NoMemory>
-    ensures { OnOk result (into.new ≡ into.old ++ completion_word p.now (completions.ReturnValue depth pos)) }
-{
-    into.push_bytes(b"Return(")?;
-    put_number(alloc, u64::from(depth), into)?;
-    into.push_bytes(b")")?;
-    put_at(alloc, pos, into)
-}
-
-fn put_thrown(
-    alloc: Global,
-    p: &Program,
-    depth: u32,
-    class: ClassId,
-    pos: Pos,
-    into: &mut Text,
-) -> Result<(), NoMemory>
-    ensures { OnOk result (into.new ≡ into.old ++ completion_word p.now (completions.Throw depth class pos)) }
-{
-    into.push_bytes(b"Throw(")?;
-    put_number(alloc, u64::from(depth), into)?;
-    into.push_bytes(b",")?;
-    into.push_bytes(class_word(p, class))?;
-    into.push_bytes(b")")?;
-    put_at(alloc, pos, into)
 }
 
 pub(crate) fn put_completion(
@@ -73,7 +39,19 @@ pub(crate) fn put_completion(
             into.push_bytes(b"Return")?;
             put_at(alloc, pos, into)
         }
-        Completion::ReturnValue(depth, pos) => put_returned(alloc, p, depth, pos, into),
-        Completion::Throw(depth, class, pos) => put_thrown(alloc, p, depth, class, pos, into),
+        Completion::ReturnValue(depth, pos) => {
+            into.push_bytes(b"Return(")?;
+            put_number(alloc, u64::from(depth), into)?;
+            into.push_bytes(b")")?;
+            put_at(alloc, pos, into)
+        }
+        Completion::Throw(depth, class, pos) => {
+            into.push_bytes(b"Throw(")?;
+            put_number(alloc, u64::from(depth), into)?;
+            into.push_bytes(b",")?;
+            into.push_bytes(class_word(p, class))?;
+            into.push_bytes(b")")?;
+            put_at(alloc, pos, into)
+        }
     }
 }

@@ -3,7 +3,6 @@
 ghost use Rattle.std.specs.Prelude.{◌≡◌, ◌++◌, OnOk};
 ghost use Rattle.graph_words.specs.Names.{type_word};
 ghost use Rattle.graph_words.specs.Operators.{binary_word, form_word, operand_word, operator_word, unary_word};
-ghost use Rattle.control_actions.specs.declared.action.Operator.TheVariants as operators;
 
 use crate::names::put_type;
 use control_actions::{Operator, TargetForm};
@@ -71,37 +70,6 @@ pub(crate) fn form_word(form: TargetForm) -> &'static [u8]
     }
 }
 
-// The word of an operator, with the type of its result.
-fn put_unary(
-    p: &Program,
-    operator: UnaryOperator,
-    typ: VType,
-    into: &mut Text,
-) -> Result<(), NoMemory>
-    ensures { OnOk result (into.new ≡ into.old ++ operator_word p.now (operators.Unary operator typ)) }
-{
-    into.push_bytes(unary_word(operator))?;
-    into.push_bytes(b" to ")?;
-    put_type(p, typ, into)
-}
-
-// The word of an operator, with the types of its operands and of its result.
-fn put_binary(
-    p: &Program,
-    operator: BinaryOperator,
-    operands: OperandType,
-    typ: VType,
-    into: &mut Text,
-) -> Result<(), NoMemory>
-    ensures { OnOk result (into.new ≡ into.old ++ operator_word p.now (operators.Binary operator operands typ)) }
-{
-    into.push_bytes(operand_word(operands))?;
-    into.push_bytes(b" ")?;
-    into.push_bytes(binary_word(operator))?;
-    into.push_bytes(b" to ")?;
-    put_type(p, typ, into)
-}
-
 // A word in front of a type.
 fn put_typed(p: &Program, word: &[u8], typ: VType, into: &mut Text) -> Result<(), NoMemory>
     ensures { OnOk result (into.new ≡ into.old ++ (word.now ++ type_word p.now typ)) }
@@ -114,8 +82,16 @@ pub(crate) fn put_operator(p: &Program, operator: Operator, into: &mut Text) -> 
     ensures { OnOk result (into.new ≡ into.old ++ operator_word p.now operator) }
 {
     match operator {
-        Operator::Unary(operator, typ) => put_unary(p, operator, typ, into),
-        Operator::Binary(operator, operands, typ) => put_binary(p, operator, operands, typ, into),
+        Operator::Unary(operator, typ) => {
+            into.push_bytes(unary_word(operator))?;
+            put_typed(p, b" to ", typ, into)
+        }
+        Operator::Binary(operator, operands, typ) => {
+            into.push_bytes(operand_word(operands))?;
+            into.push_bytes(b" ")?;
+            into.push_bytes(binary_word(operator))?;
+            put_typed(p, b" to ", typ, into)
+        }
         Operator::InstanceOf(typ) => put_typed(p, b"instanceof ", typ, into),
         Operator::Convert(typ) => put_typed(p, b"to ", typ, into),
         Operator::Length => into.push_bytes(b"length"),

@@ -1,2 +1,2 @@
+pub mod LoopLemmas
 pub mod StepLemmas
-pub mod WayLemmas

@@ -1,11 +1,10 @@
--- What the code's values of steps mean; what those of fronts and changes mean is passed on.
+-- What the code's values of steps mean.
 use Rattle.std.specs.Prelude.{ℕ, max, List, [], ◌∷◌}
 use Rattle.control_actions.specs.declared.cell.Cell.{Cell}
 use Rattle.control_actions.specs.declared.triple.Triple.{Triple}
 use Rattle.java_control.specs.Control.{Step}
 use Rattle.control_actions.specs.Remaining.{todos}
 use Rattle.control_actions.specs.Tables.{list_at}
-pub use Rattle.expression_control.specs.Changes.{front_in, highest_front, Becomes, change, seen, highest_changes, bare_change, highest_first}
 
 -- the step that a triple over a table means
 abbrev pub step_in : List Cell → Triple → Step

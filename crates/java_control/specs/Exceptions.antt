@@ -13,8 +13,8 @@ use Rattle.control_actions.specs.declared.action.Completion.TheVariants as compl
 use Rattle.control_actions.specs.declared.action.Edge.TheVariants as edges
 use Rattle.control_actions.specs.declared.action.Scope.TheVariants as scopes
 use Rattle.control_actions.specs.Remaining.{Todo, Do, Leave, Out, Way, way, skip, statement_place}
-pub use Rattle.action_effects.specs.Exceptions.{binary_exceptions, class_count, class_with, declared_exceptions, exception_depth, exceptions_of, heeded, heeded_by_call, is_heeded_under, is_wholly_ignored, operator_exceptions, other_exceptions, own_exceptions, receiver_exceptions, some_heeded, throws_clause, throws_in, throws_some_heeded, unchecked, with_class, with_classes}
-pub use Rattle.try_statements.specs.Clauses.{clause_taken, clauses_in, clauses_of_kind, may_take, takes_some, takes_wholly}
+pub use Rattle.control_actions.specs.Exceptions.{binary_exceptions, class_count, class_with, declared_exceptions, exception_depth, exceptions_of, heeded, heeded_by_call, is_heeded_under, is_wholly_ignored, operator_exceptions, other_exceptions, own_exceptions, receiver_exceptions, some_heeded, throws_clause, throws_in, throws_some_heeded, unchecked, with_class, with_classes}
+pub use Rattle.control_actions.specs.Clauses.{clause_taken, clauses_in, clauses_of_kind, may_take, takes_some, takes_wholly}
 
 -- a `throw` never goes on
 abbrev pub goes_on : Action → List Todo → List Way

@@ -1,26 +1,27 @@
 //! What a completion on its way out becomes.
 
-ghost use Rattle.std.specs.Prelude.{◌≡◌, ◌+◌, ◌≤◌, ◌++◌, ◌∷◌, [], map, length, max, option_map, IfOk, OnOk};
-ghost use Rattle.java_control.specs.Changes.{bare_change, change, front_in, highest_changes, highest_front, seen};
-ghost use Rattle.java_control.specs.Becoming.{alone, catch_change, catch_changes, completion_becomes, entry, loop_change, moves, settled, supp_change};
-ghost use Rattle.java_control.specs.Completions.{at_depth};
-ghost use Rattle.java_control.specs.Exceptions.{clauses_of_kind};
-ghost use Rattle.control_actions.specs.Remaining.{Do, Finish, Out, Supp};
+ghost use Rattle.std.specs.Prelude.{◌≡◌, ◌+◌, ◌≤◌, ◌++◌, ◌∷◌, [], map, length, max, IfOk, OnOk};
+ghost use Rattle.program_model.specs.Lookups.{statement_at};
+ghost use Rattle.java_control.specs.Changes.{highest_steps, step_in};
+ghost use Rattle.java_control.specs.Completions.{at_catch, at_depth, at_loop, at_supp, ends, out, settles};
+ghost use Rattle.java_control.specs.Control.{step_at};
+ghost use Rattle.java_control.specs.Exceptions.{caught, clauses_in, enters};
 ghost use Rattle.java_control.specs.Statements.{close_fork, close_front};
+ghost use Rattle.control_actions.specs.Remaining.{Supp, todos};
+ghost use Rattle.control_actions.specs.Tables.{Keeps, highest, list_at, view_in};
 ghost use Rattle.control_actions.specs.declared.action.Action.TheVariants as actions;
-ghost use Rattle.control_actions.specs.declared.action.Edge.TheVariants as edges;
 ghost use Rattle.control_actions.specs.declared.item.Item.TheVariants as items;
 ghost use Rattle.control_actions.specs.declared.place.Place.TheVariants as places;
-ghost use Rattle.control_actions.specs.Tables.{Keeps, bare, highest, highest_of, view_in};
 
+use crate::actions::{add_way, goes, one_step};
 use control_actions::{
-    Action, ClauseId, Closing, Completion, Edge, Item, Lists, Place, Scope, TargetForm,
+    Action, ClauseId, Closing, Completion, Edge, Item, Lists, Place, Scope, TargetForm, Triple,
+    may_take, takes_wholly,
 };
-use expression_control::{Change, Front, deeper, flat, front_of, one_way, put, statement_place};
+use expression_control::{deeper, statement_place};
 use program_model::{Body, CatchClause, ClassId, Program, StatementKind, StmtId};
 use rlc_base::{NoMemory, Pos};
 use std::alloc::Global;
-use try_statements::{may_take, takes_wholly};
 
 // The completion with its value in the temp of depth `b`.
 fn at_depth(c: Completion, b: u32) -> Completion
@@ -33,122 +34,122 @@ fn at_depth(c: Completion, b: u32) -> Completion
     }
 }
 
-// Both first items give way, without an action.
-fn moves(alloc: Global, left: &[Item]) -> Result<Vec<Change>, NoMemory>
-    ensures means { IfOk result (λ v. map bare_change v.items ≡ moves (map bare left.now)) }
-    ensures small { IfOk result (λ v. highest_changes v.items ≡ max (max (highest_of left.now) 0) 0) }
-{
-    one_way(alloc, Action::Skip, Edge::Go, 2, flat(alloc, left)?)
-}
-
-// Both first items give way, and the completion's value goes to depth `b`.
-fn settles(alloc: Global, b: u32, c: Completion, left: &[Item]) -> Result<Vec<Change>, NoMemory>
-    ensures means { IfOk result (λ v. map bare_change v.items ≡ settled b c (map bare left.now)) }
-    ensures small { IfOk result (λ v. highest_changes v.items ≡ max (max (highest_of left.now) 0) 0) }
-{
-    one_way(alloc, Action::Settle(b, c), Edge::Go, 2, flat(alloc, left)?)
-}
-
 // A loop takes a `break` and a `continue`.
-fn at_loop(alloc: Global, c: Completion, w: StmtId, d: u32) -> Result<Vec<Change>, NoMemory>
-    ensures means { IfOk result (λ v. map bare_change v.items ≡ loop_change c w d) }
-    ensures small { IfOk result (λ v. highest_changes v.items ≡ 0) }
+fn at_loop(
+    alloc: Global,
+    lists: &mut Lists,
+    c: Completion,
+    w: StmtId,
+    d: u32,
+    rest: usize,
+    pos: Pos,
+) -> Result<Vec<Triple>, NoMemory>
+    requires { rest ≤ length lists.old.cells.keys }
+    ensures steps { IfOk result (λ v. map (step_in lists.new.cells.keys) v.items ≡ map (step_at pos) (at_loop c w d (todos (list_at lists.old.cells.keys rest)))) }
+    ensures within { IfOk result (λ v. highest_steps v.items ≤ length lists.new.cells.keys) }
+    ensures kept { Keeps lists.old.cells.keys lists.new.cells.keys }
 {
     match c {
-        Completion::Break(_) => moves(alloc, &[]),
-        Completion::Continue(_) => moves(alloc, &[Item::LoopEnd(w, d)]),
-        _ => moves(alloc, &[Item::Out(c)]),
+        Completion::Break(_) => goes(alloc, lists, Action::Skip, &[], rest, pos),
+        Completion::Continue(_) => {
+            goes(
+                alloc,
+                lists,
+                Action::Skip,
+                &[Item::LoopEnd(w, d)],
+                rest,
+                pos,
+            )
+        }
+        _ => goes(alloc, lists, Action::Skip, &[Item::Out(c)], rest, pos),
     }
 }
 
-// A frame ends by a `return`, or by an exception.
-fn alone(alloc: Global, c: Completion) -> Result<Vec<Change>, NoMemory>
-    ensures means { IfOk result (λ v. map bare_change v.items ≡ alone c) }
-    ensures small { IfOk result (λ v. highest_changes v.items ≡ 0) }
+/// A frame ends by a `return`, or by an exception.
+pub fn ended(
+    alloc: Global,
+    lists: &mut Lists,
+    c: Completion,
+    pos: Pos,
+) -> Result<Vec<Triple>, NoMemory>
+    ensures steps { IfOk result (λ v. map (step_in lists.new.cells.keys) v.items ≡ map (step_at pos) (ends c)) }
+    ensures within { IfOk result (λ v. highest_steps v.items ≤ length lists.new.cells.keys) }
+    ensures kept { Keeps lists.old.cells.keys lists.new.cells.keys }
 {
     match c {
         Completion::Break(_) | Completion::Continue(_) => Ok(Vec::new(alloc)),
-        _ => one_way(
-            alloc,
-            Action::End(c),
-            Edge::Go,
-            1,
-            flat(alloc, &[Item::Ended])?,
-        ),
+        _ => {
+            let to = lists.single(Item::Ended)?;
+            one_step(alloc, Action::End(c), Edge::Go, to, pos)
+        }
     }
 }
 
 // An exception that was on its way out when a resource was closed stays.
 fn at_supp(
     alloc: Global,
+    lists: &mut Lists,
     waiting: Completion,
     c: Completion,
     b: u32,
-) -> Result<Vec<Change>, NoMemory>
-    ensures means { IfOk result (λ v. map bare_change v.items ≡ supp_change waiting c b) }
-    ensures small { IfOk result (λ v. highest_changes v.items ≡ 0) }
+    rest: usize,
+    pos: Pos,
+) -> Result<Vec<Triple>, NoMemory>
+    requires { rest ≤ length lists.old.cells.keys }
+    ensures steps { IfOk result (λ v. map (step_in lists.new.cells.keys) v.items ≡ map (step_at pos) (at_supp waiting c b (todos (list_at lists.old.cells.keys rest)))) }
+    ensures within { IfOk result (λ v. highest_steps v.items ≤ length lists.new.cells.keys) }
+    ensures kept { Keeps lists.old.cells.keys lists.new.cells.keys }
 {
     match waiting {
         Completion::Throw(_, _, _) => {
             let drop = Action::Drop(Scope::TempsAbove(b));
-            one_way(
-                alloc,
-                drop,
-                Edge::Go,
-                2,
-                flat(alloc, &[Item::Out(waiting)])?,
-            )
+            goes(alloc, lists, drop, &[Item::Out(waiting)], rest, pos)
         }
-        _ => settles(alloc, b, c, &[Item::Out(at_depth(c, b))]),
+        _ => {
+            let out = Item::Out(at_depth(c, b));
+            goes(alloc, lists, Action::Settle(b, c), &[out], rest, pos)
+        }
     }
 }
 
-// Adds the way into a catch clause.
-#[tactic(auto, using(expression_control::proofs::FlatLemmas::changes_means, expression_control::proofs::FlatLemmas::changes_small))]
+// Adds the step into a catch clause.
 fn add_entry(
-    alloc: Global,
-    changes: &mut Vec<Change>,
+    lists: &mut Lists,
+    steps: &mut Vec<Triple>,
     body: &Body,
     id: ClauseId,
     clause: &CatchClause,
     b: u32,
     d: u32,
+    rest: usize,
+    pos: Pos,
 ) -> Result<(), NoMemory>
-    ensures means { OnOk result (map bare_change changes.new.items ≡ map bare_change changes.old.items ++ entry body.now id.statement id.index b d clause.now ∷ []) }
-    ensures small { OnOk result (highest_changes changes.new.items ≡ highest_changes changes.old.items) }
+    requires rest { rest ≤ length lists.old.cells.keys }
+    requires steps { highest_steps steps.old.items ≤ length lists.old.cells.keys }
+    ensures steps { OnOk result (map (step_in lists.new.cells.keys) steps.new.items ≡ map (step_in lists.old.cells.keys) steps.old.items ++ step_at pos (enters body.now id.statement id.index b d clause.now (todos (list_at lists.old.cells.keys rest))) ∷ []) }
+    ensures within { OnOk result (highest_steps steps.new.items ≤ length lists.new.cells.keys) }
+    ensures kept { Keeps lists.old.cells.keys lists.new.cells.keys }
 {
-    let scope = Scope::Variable(clause.variable);
-    let pos = statement_place(body, clause.block);
-    let front = flat(alloc, &[Item::Do(clause.block, b), Item::Leave(scope, pos)])?;
-    let change = Change {
-        action: Action::Enter(id, clause.variable, b, d),
-        edge: Edge::Go,
-        uses: 2,
-        front,
-    };
-    put(changes, change)
+    let enter = Action::Enter(id, clause.variable, b, d);
+    let end = Item::Leave(
+        Scope::Variable(clause.variable),
+        statement_place(body, clause.block),
+    );
+    add_way(
+        lists,
+        steps,
+        enter,
+        Edge::Go,
+        &[Item::Do(clause.block, b), end],
+        rest,
+        pos,
+    )
 }
 
-// Adds the way past the catch clauses.
-#[tactic(auto, using(expression_control::proofs::FlatLemmas::changes_means, expression_control::proofs::FlatLemmas::changes_small))]
-fn add_passage(alloc: Global, changes: &mut Vec<Change>, thrown: Completion) -> Result<(), NoMemory>
-    ensures means { OnOk result (map bare_change changes.new.items ≡ map bare_change changes.old.items ++ moves (Out thrown ∷ [])) }
-    ensures small { OnOk result (highest_changes changes.new.items ≡ highest_changes changes.old.items) }
-{
-    let front = flat(alloc, &[Item::Out(thrown)])?;
-    let change = Change {
-        action: Action::Skip,
-        edge: Edge::Go,
-        uses: 2,
-        front,
-    };
-    put(changes, change)
-}
-
-// Adds the ways of an exception of class `t` that meets catch clauses.
+// Adds the steps of an exception of class `t` that meets catch clauses.
 fn add_caught(
-    alloc: Global,
-    changes: &mut Vec<Change>,
+    lists: &mut Lists,
+    steps: &mut Vec<Triple>,
     p: &Program,
     body: &Body,
     s: StmtId,
@@ -156,10 +157,15 @@ fn add_caught(
     b: u32,
     d: u32,
     t: ClassId,
+    place: Pos,
+    rest: usize,
     pos: Pos,
 ) -> Result<(), NoMemory>
-    ensures means { OnOk result (map bare_change changes.new.items ≡ map bare_change changes.old.items ++ catch_changes p.now body.now s 0 clauses.now b d t pos) }
-    ensures small { OnOk result (highest_changes changes.new.items ≡ highest_changes changes.old.items) }
+    requires rest { rest ≤ length lists.old.cells.keys }
+    requires steps { highest_steps steps.old.items ≤ length lists.old.cells.keys }
+    ensures steps { OnOk result (map (step_in lists.new.cells.keys) steps.new.items ≡ map (step_in lists.old.cells.keys) steps.old.items ++ map (step_at pos) (caught p.now body.now s 0 clauses.now b d t place (todos (list_at lists.old.cells.keys rest)))) }
+    ensures within { OnOk result (highest_steps steps.new.items ≤ length lists.new.cells.keys) }
+    ensures kept { Keeps lists.old.cells.keys lists.new.cells.keys }
 {
     for (index, clause) in clauses.iter().enumerate() {
         let id = ClauseId {
@@ -167,74 +173,56 @@ fn add_caught(
             index,
         };
         if takes_wholly(p, t, clause) {
-            return add_entry(alloc, changes, body, id, clause, b, d);
+            return add_entry(lists, steps, body, id, clause, b, d, rest, pos);
         }
         if may_take(p, t, clause) {
-            add_entry(alloc, changes, body, id, clause, b, d)?;
+            add_entry(lists, steps, body, id, clause, b, d, rest, pos)?;
         }
     }
-    add_passage(alloc, changes, Completion::Throw(d, t, pos))
+    let thrown = Item::Out(Completion::Throw(d, t, place));
+    add_way(lists, steps, Action::Skip, Edge::Go, &[thrown], rest, pos)
 }
 
-// An exception of class `t` meets catch clauses.
-fn caught(
-    alloc: Global,
-    p: &Program,
-    body: &Body,
-    s: StmtId,
-    clauses: &[CatchClause],
-    b: u32,
-    d: u32,
-    t: ClassId,
-    pos: Pos,
-) -> Result<Vec<Change>, NoMemory>
-    ensures means { IfOk result (λ v. map bare_change v.items ≡ catch_changes p.now body.now s 0 clauses.now b d t pos) }
-    ensures small { IfOk result (λ v. highest_changes v.items ≡ 0) }
+// The catch clauses of a statement.
+fn clauses_at(body: &Body, s: StmtId) -> &[CatchClause]
+    ensures { result.now ≡ clauses_in (statement_at body.now s) }
 {
-    let mut changes = Vec::new(alloc);
-    add_caught(alloc, &mut changes, p, body, s, clauses, b, d, t, pos)?;
-    Ok(changes)
-}
-
-// An exception meets the catch clauses of a statement.
-fn caught_by(
-    alloc: Global,
-    p: &Program,
-    body: &Body,
-    s: StmtId,
-    kind: &StatementKind,
-    b: u32,
-    d: u32,
-    t: ClassId,
-    pos: Pos,
-) -> Result<Vec<Change>, NoMemory>
-    ensures means { IfOk result (λ v. map bare_change v.items ≡ catch_changes p.now body.now s 0 (clauses_of_kind kind.now) b d t pos) }
-    ensures small { IfOk result (λ v. highest_changes v.items ≡ 0) }
-{
-    match kind {
-        StatementKind::Try(try_) => caught(alloc, p, body, s, &try_.catches, b, d, t, pos),
-        _ => caught(alloc, p, body, s, &[], b, d, t, pos),
+    match body.statement(s) {
+        None => &[],
+        Some(found) => match &found.kind {
+            StatementKind::Try(t) => t.catches.as_slice(),
+            _ => &[],
+        },
     }
 }
 
 // Catch clauses take exceptions alone.
 fn at_catch(
     alloc: Global,
+    lists: &mut Lists,
     p: &Program,
     body: &Body,
     c: Completion,
     s: StmtId,
     b: u32,
-) -> Result<Vec<Change>, NoMemory>
-    ensures means { IfOk result (λ v. map bare_change v.items ≡ catch_change c p.now body.now s b) }
-    ensures small { IfOk result (λ v. highest_changes v.items ≡ 0) }
+    rest: usize,
+    pos: Pos,
+) -> Result<Vec<Triple>, NoMemory>
+    requires { rest ≤ length lists.old.cells.keys }
+    ensures steps { IfOk result (λ v. map (step_in lists.new.cells.keys) v.items ≡ map (step_at pos) (at_catch c p.now body.now s b (todos (list_at lists.old.cells.keys rest)))) }
+    ensures within { IfOk result (λ v. highest_steps v.items ≤ length lists.new.cells.keys) }
+    ensures kept { Keeps lists.old.cells.keys lists.new.cells.keys }
 {
     match c {
-        Completion::Throw(d, t, pos) => match body.statement(s) {
-            None => caught(alloc, p, body, s, &[], b, d, t, pos),
-            Some(found) => caught_by(alloc, p, body, s, &found.kind, b, d, t, pos),
-        },
-        _ => moves(alloc, &[Item::Out(c)]),
+        Completion::Throw(d, t, place) => {
+            let clauses = clauses_at(body, s);
+            let mut steps = Vec::new(alloc);
+            add_caught(
+                lists, &mut steps, p, body, s, clauses, b, d, t, place, rest, pos,
+            )?;
+            Ok(steps)
+        }
+        _ => goes(alloc, lists, Action::Skip, &[Item::Out(c)], rest, pos),
     }
 }
 
@@ -260,13 +248,14 @@ fn close_fork(lists: &mut Lists, r: Closing, b: u32) -> Result<Item, NoMemory>
 }
 
 /// A resource that is not null is closed.
-pub fn close_front(alloc: Global, lists: &mut Lists, r: Closing, b: u32) -> Result<Front, NoMemory>
-    ensures front { IfOk result (λ f. front_in lists.new.cells.keys f ≡ close_front r b) }
-    ensures within { IfOk result (λ f. highest_front f ≤ length lists.new.cells.keys) }
+pub fn close_list(lists: &mut Lists, r: Closing, b: u32, rest: usize) -> Result<usize, NoMemory>
+    requires { rest ≤ length lists.old.cells.keys }
+    ensures list { IfOk result (λ id. todos (list_at lists.new.cells.keys id) ≡ close_front r b ++ todos (list_at lists.old.cells.keys rest)) }
+    ensures within { IfOk result (λ id. id ≤ length lists.new.cells.keys) }
     ensures kept { Keeps lists.old.cells.keys lists.new.cells.keys }
 {
     let fork = close_fork(lists, r, b)?;
-    front_of(alloc, lists, &[resource_copy(r, b), fork])
+    lists.push_all(&[resource_copy(r, b), fork], rest)
 }
 
 // A completion that meets the closing of a resource waits until it is closed.
@@ -276,67 +265,79 @@ fn at_close(
     c: Completion,
     r: Closing,
     b: u32,
-) -> Result<Vec<Change>, NoMemory>
-    ensures list { IfOk result (λ v. map (seen lists.new.cells.keys) v.items ≡ settled b c (close_front r (b + 1) ++ Supp (at_depth c b) b r.statement ∷ [])) }
-    ensures within { IfOk result (λ v. highest_changes v.items ≤ length lists.new.cells.keys) }
+    rest: usize,
+    pos: Pos,
+) -> Result<Vec<Triple>, NoMemory>
+    requires { rest ≤ length lists.old.cells.keys }
+    ensures steps { IfOk result (λ v. map (step_in lists.new.cells.keys) v.items ≡ map (step_at pos) (settles b c (close_front r (b + 1) ++ Supp (at_depth c b) b r.statement ∷ todos (list_at lists.old.cells.keys rest)))) }
+    ensures within { IfOk result (λ v. highest_steps v.items ≤ length lists.new.cells.keys) }
     ensures kept { Keeps lists.old.cells.keys lists.new.cells.keys }
 {
     let next = deeper(b, 1)?;
-    let fork = close_fork(lists, r, next)?;
-    let waits = Item::Supp(at_depth(c, b), b, r.statement);
-    let front = front_of(alloc, lists, &[resource_copy(r, next), fork, waits])?;
-    one_way(alloc, Action::Settle(b, c), Edge::Go, 2, front)
+    let waits = lists.push(Item::Supp(at_depth(c, b), b, r.statement), rest)?;
+    let to = close_list(lists, r, next, waits)?;
+    one_step(alloc, Action::Settle(b, c), Edge::Go, to, pos)
 }
 
-// A completion that meets the end of a scope empties its places.
-fn at_leave(alloc: Global, c: Completion, scope: Scope) -> Result<Vec<Change>, NoMemory>
-    ensures means { IfOk result (λ v. map bare_change v.items ≡ change (actions.Drop scope) edges.Go 2 (Out c ∷ []) ∷ []) }
-    ensures small { IfOk result (λ v. highest_changes v.items ≡ 0) }
-{
-    let front = flat(alloc, &[Item::Out(c)])?;
-    one_way(alloc, Action::Drop(scope), Edge::Go, 2, front)
-}
-
-// A completion that meets a `finally` block waits until the block has run.
-fn at_finally(alloc: Global, c: Completion, f: StmtId, b: u32) -> Result<Vec<Change>, NoMemory>
-    ensures means { IfOk result (λ v. map bare_change v.items ≡ settled b c (Do f (b + 1) ∷ Finish (at_depth c b) b f ∷ [])) }
-    ensures small { IfOk result (λ v. highest_changes v.items ≡ 0) }
-{
-    let block = Item::Do(f, deeper(b, 1)?);
-    settles(alloc, b, c, &[block, Item::Finish(at_depth(c, b), b, f)])
-}
-
-// A completion takes the place of the one that waited for a `finally` block.
-fn at_finish(alloc: Global, c: Completion, b: u32) -> Result<Vec<Change>, NoMemory>
-    ensures means { IfOk result (λ v. map bare_change v.items ≡ settled b c (Out (at_depth c b) ∷ [])) }
-    ensures small { IfOk result (λ v. highest_changes v.items ≡ 0) }
-{
-    settles(alloc, b, c, &[Item::Out(at_depth(c, b))])
-}
-
-/// What a completion becomes, by the item behind it.
-#[tactic(auto, using(expression_control::proofs::FlatLemmas::changes_bare))]
-pub fn completion_changes(
+// What a completion becomes, by the item behind it.
+fn meets(
     alloc: Global,
     lists: &mut Lists,
     p: &Program,
     body: &Body,
     c: Completion,
-    second: Option<Item>,
-) -> Result<Vec<Change>, NoMemory>
-    ensures list { IfOk result (λ v. map (seen lists.new.cells.keys) v.items ≡ completion_becomes p.now body.now c (option_map (view_in lists.old.cells.keys) second)) }
-    ensures within { IfOk result (λ v. highest_changes v.items ≤ length lists.new.cells.keys) }
+    item: Item,
+    rest: usize,
+    pos: Pos,
+) -> Result<Vec<Triple>, NoMemory>
+    requires { rest ≤ length lists.old.cells.keys }
+    ensures steps { IfOk result (λ v. map (step_in lists.new.cells.keys) v.items ≡ map (step_at pos) (out p.now body.now c (view_in lists.old.cells.keys item ∷ todos (list_at lists.old.cells.keys rest)))) }
+    ensures within { IfOk result (λ v. highest_steps v.items ≤ length lists.new.cells.keys) }
     ensures kept { Keeps lists.old.cells.keys lists.new.cells.keys }
 {
-    match second {
-        None => alone(alloc, c),
-        Some(Item::LoopEnd(w, d)) => at_loop(alloc, c, w, d),
-        Some(Item::Leave(x, _)) => at_leave(alloc, c, x),
-        Some(Item::Catch(s, b)) => at_catch(alloc, p, body, c, s, b),
-        Some(Item::Fin(f, b)) => at_finally(alloc, c, f, b),
-        Some(Item::Close(r, b)) => at_close(alloc, lists, c, r, b),
-        Some(Item::Finish(_, b, _)) => at_finish(alloc, c, b),
-        Some(Item::Supp(waiting, b, _)) => at_supp(alloc, waiting, c, b),
-        _ => moves(alloc, &[Item::Out(c)]),
+    match item {
+        Item::LoopEnd(w, d) => at_loop(alloc, lists, c, w, d, rest, pos),
+        Item::Leave(x, _) => goes(alloc, lists, Action::Drop(x), &[Item::Out(c)], rest, pos),
+        Item::Catch(s, b) => at_catch(alloc, lists, p, body, c, s, b, rest, pos),
+        Item::Fin(f, b) => {
+            let block = Item::Do(f, deeper(b, 1)?);
+            let waits = Item::Finish(at_depth(c, b), b, f);
+            goes(
+                alloc,
+                lists,
+                Action::Settle(b, c),
+                &[block, waits],
+                rest,
+                pos,
+            )
+        }
+        Item::Close(r, b) => at_close(alloc, lists, c, r, b, rest, pos),
+        Item::Finish(_, b, _) => {
+            let out = Item::Out(at_depth(c, b));
+            goes(alloc, lists, Action::Settle(b, c), &[out], rest, pos)
+        }
+        Item::Supp(waiting, b, _) => at_supp(alloc, lists, waiting, c, b, rest, pos),
+        _ => goes(alloc, lists, Action::Skip, &[Item::Out(c)], rest, pos),
+    }
+}
+
+/// What a completion becomes, by what stands behind it.
+pub fn completion_steps(
+    alloc: Global,
+    lists: &mut Lists,
+    p: &Program,
+    body: &Body,
+    c: Completion,
+    rest: usize,
+    pos: Pos,
+) -> Result<Vec<Triple>, NoMemory>
+    requires { rest ≤ length lists.old.cells.keys }
+    ensures steps { IfOk result (λ v. map (step_in lists.new.cells.keys) v.items ≡ map (step_at pos) (out p.now body.now c (todos (list_at lists.old.cells.keys rest)))) }
+    ensures within { IfOk result (λ v. highest_steps v.items ≤ length lists.new.cells.keys) }
+    ensures kept { Keeps lists.old.cells.keys lists.new.cells.keys }
+{
+    match lists.first(rest) {
+        None => ended(alloc, lists, c, pos),
+        Some(cell) => meets(alloc, lists, p, body, c, cell.item, cell.tail, pos),
     }
 }

@@ -5,16 +5,12 @@ mod actions;
 mod completions;
 mod control;
 mod statements;
-mod steps;
 
-pub use action_effects::{
-    called_method, completion_temp, edges_of_exceptions, exceptions_of, is_dropped,
-    is_reset_of_this, operand_at, source, target_form,
-};
 pub use control::{next, start};
 pub use control_actions::{
     Action, Cell, ClauseId, Closing, Completion, Condition, Edge, Fact, Item, Lists, Mode,
     Operator, Origin, OriginKind, Outcome, Place, Places, PlainValue, Rule, Scope, TargetForm,
-    Triple, declares_field, field_place, has_place,
+    Triple, called_method, clause_taken, completion_temp, declares_field, edges_of_exceptions,
+    exceptions_of, field_place, has_place, is_dropped, is_reset_of_this, operand_at, source,
+    target_form,
 };
-pub use try_statements::clause_taken;

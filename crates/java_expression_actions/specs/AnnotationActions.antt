@@ -1,14 +1,14 @@
 -- The actions of annotations and modifiers: the kinds of the values that each takes, the top first, those that it leaves, and what it makes.
-use Rattle.std.specs.Prelude.{ℕ, List, [], ◌∷◌, Some, None}
+use Rattle.std.specs.Prelude.{ℕ, Bool, true, false, List, [], ◌∷◌, Some, None}
 use Rattle.java_syntax.specs.AnnotationTrees.{ArgumentTree, AnnoValueTree, ModifierTree, Public, Protected, Private, Static, Final, Abstract}
 use Rattle.java_syntax.specs.declared.actions.AnnotationAction.{AnnotationAction}
 use Rattle.java_syntax.specs.declared.actions.AnnotationAction.TheVariants as action
 use Rattle.java_values.specs.Values as kinds
 use Rattle.java_values.specs.Values.{Kind, ValueTree}
 use Rattle.java_values.specs.Kinds.{Values, ◌▷◌, bottom, taken, resume}
-use Rattle.java_nested_trees.specs.Outcomes.{Outcome, Made, ◌>>=◌}
-use Rattle.java_nested_trees.specs.Lists.{none_of, added}
-use Rattle.java_statement_nodes.specs.Parts.{annotation_node, argument_node, expression_value_node, annotation_value_node, list_value_node, modifier_node, place_of_annotation, word_node}
+use Rattle.java_values.specs.Outcomes.{Outcome, Made, ◌>>=◌}
+use Rattle.java_values.specs.Lists.{none_of, added}
+use Rattle.java_nodes.specs.StatementParts.{annotation_node, argument_node, expression_value_node, annotation_value_node, list_value_node, modifier_node, place_of_annotation, word_node}
 
 abbrev pub takes_annotation : AnnotationAction → List Kind
 takes_annotation action.NoArguments = []
@@ -84,3 +84,34 @@ act_annotation limit action.Abstract (all ▷ bottom) = Made ((added all (word_n
 -- what an action does on a stack
 unfoldable pub perform_annotation : ℕ → AnnotationAction → List ValueTree → Outcome (List ValueTree)
 perform_annotation limit a s = resume (takes_annotation a) (leaves_annotation a) (act_annotation limit a) (taken (takes_annotation a) s)
+
+-- the actions of an annotation, its arguments and their values
+abbrev pub is_of_arguments : AnnotationAction → Bool
+is_of_arguments action.NoArguments = true
+is_of_arguments action.Annotation = true
+is_of_arguments action.Pair = true
+is_of_arguments action.SingleValue = true
+is_of_arguments action.ExpressionValue = true
+is_of_arguments action.AnnotationValue = true
+is_of_arguments _ = false
+
+-- the actions of lists of values and of annotations
+abbrev pub is_of_values : AnnotationAction → Bool
+is_of_values action.NoValues = true
+is_of_values action.AndValue = true
+is_of_values action.ListValue = true
+is_of_values action.AndAnnotation = true
+is_of_values action.FirstAnnotation = true
+is_of_values _ = false
+
+-- the actions of modifiers
+abbrev pub is_of_modifiers : AnnotationAction → Bool
+is_of_modifiers action.NoModifiers = true
+is_of_modifiers action.AnnotationModifier = true
+is_of_modifiers action.Public = true
+is_of_modifiers action.Protected = true
+is_of_modifiers action.Private = true
+is_of_modifiers action.Static = true
+is_of_modifiers action.Final = true
+is_of_modifiers action.Abstract = true
+is_of_modifiers _ = false

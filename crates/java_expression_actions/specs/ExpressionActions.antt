@@ -1,17 +1,17 @@
 -- The actions of expressions, names and types: the kinds of the values that each takes, the top first, those that it leaves, and what it makes.
-use Rattle.std.specs.Prelude.{ℕ, List, [], ◌∷◌, Some, None}
+use Rattle.std.specs.Prelude.{ℕ, Bool, true, false, List, [], ◌∷◌, Some, None}
 use Rattle.java_syntax.specs.ExpressionTrees.{ExprTree}
 use Rattle.java_syntax.specs.declared.actions.ExpressionAction.{ExpressionAction}
 use Rattle.java_syntax.specs.declared.actions.ExpressionAction.TheVariants as action
 use Rattle.java_values.specs.Values as kinds
-use Rattle.java_nested_trees.specs.NestedTrees.{NamesInside, ArrayInside, ExpressionInside}
+use Rattle.java_values.specs.NestedTrees.{NamesInside, ArrayInside, ExpressionInside}
 use Rattle.java_values.specs.Values.{Kind, ValueTree}
 use Rattle.java_values.specs.Kinds.{Values, ◌▷◌, bottom, taken, resume}
-use Rattle.java_nested_trees.specs.Outcomes.{Outcome, Made, ◌>>=◌}
-use Rattle.java_expression_nodes.specs.Nodes.{super_call_node, index_node, new_object_node, new_array_node, prefix_node, prefix_step_node, cast_node, instance_node, conditional_node, assignment_node, compound_node, parenthesized}
-use Rattle.java_expression_nodes.specs.Operators.{compound_operator, prefix_operator, step_operator}
-use Rattle.java_nested_trees.specs.Lists.{none_of, added}
-use Rattle.java_expression_nodes.specs.Parts.{closed, loosest, head_node, selector_node, named_call, name_expression, type_named, type_of, array_type, type_inside, expression_inside}
+use Rattle.java_values.specs.Outcomes.{Outcome, Made, ◌>>=◌}
+use Rattle.java_nodes.specs.Nodes.{super_call_node, index_node, new_object_node, new_array_node, prefix_node, prefix_step_node, cast_node, instance_node, conditional_node, assignment_node, compound_node, parenthesized}
+use Rattle.java_nodes.specs.Operators.{compound_operator, prefix_operator, step_operator}
+use Rattle.java_values.specs.Lists.{none_of, added}
+use Rattle.java_nodes.specs.Parts.{closed, loosest, head_node, selector_node, named_call, name_expression, type_named, type_of, array_type, type_inside, expression_inside}
 
 abbrev pub takes_expression : ExpressionAction → List Kind
 takes_expression action.NoExpressions = []
@@ -163,3 +163,60 @@ act_expression limit action.LeavePlace (e ▷ start ▷ bottom) = Made (e ▷ bo
 -- what an action does on a stack
 unfoldable pub perform_expression : ℕ → ExpressionAction → List ValueTree → Outcome (List ValueTree)
 perform_expression limit a s = resume (takes_expression a) (leaves_expression a) (act_expression limit a) (taken (takes_expression a) s)
+
+-- the actions of lists of expressions and of operands
+abbrev pub is_of_lists : ExpressionAction → Bool
+is_of_lists action.NoExpressions = true
+is_of_lists action.AndExpression = true
+is_of_lists action.SomeCall = true
+is_of_lists action.NoCall = true
+is_of_lists action.BeginOperations = true
+is_of_lists action.LeavePlace = true
+is_of_lists _ = false
+
+-- the actions of types
+abbrev pub is_of_types : ExpressionAction → Bool
+is_of_types action.NamedType = true
+is_of_types action.IdentifiersType = true
+is_of_types action.ArrayType = true
+is_of_types action.ArrayOf = true
+is_of_types _ = false
+
+-- the actions of calls, names and new objects
+abbrev pub is_of_calls : ExpressionAction → Bool
+is_of_calls action.Head = true
+is_of_calls action.Selector = true
+is_of_calls action.SuperMethodCall = true
+is_of_calls action.NamedCall = true
+is_of_calls action.NameExpression = true
+is_of_calls action.NewObject = true
+is_of_calls _ = false
+
+-- the actions of arrays, casts and `instanceof`
+abbrev pub is_of_arrays : ExpressionAction → Bool
+is_of_arrays action.Index = true
+is_of_arrays action.NamedIndex = true
+is_of_arrays action.NewArray = true
+is_of_arrays action.Cast = true
+is_of_arrays action.InstanceOf = true
+is_of_arrays _ = false
+
+-- the actions of operators whose operands stand on the stack
+abbrev pub is_of_operators : ExpressionAction → Bool
+is_of_operators action.Prefix = true
+is_of_operators action.PrefixIncrement = true
+is_of_operators action.Conditional = true
+is_of_operators action.Assignment = true
+is_of_operators action.CompoundAssignment = true
+is_of_operators _ = false
+
+-- the actions of parentheses, and that of the end of operations
+abbrev pub is_of_parentheses : ExpressionAction → Bool
+is_of_parentheses action.Parentheses = true
+is_of_parentheses action.NamesInside = true
+is_of_parentheses action.ArrayInside = true
+is_of_parentheses action.ExpressionInside = true
+is_of_parentheses action.CastType = true
+is_of_parentheses action.ParenthesizedExpression = true
+is_of_parentheses action.EndOperations = true
+is_of_parentheses _ = false

@@ -1,5 +1,5 @@
 -- The actions at a token, the last one that was taken: the kinds of the values that each takes, the top first, those that it leaves, and what it makes.
-use Rattle.std.specs.Prelude.{ℕ, List, [], ◌∷◌}
+use Rattle.std.specs.Prelude.{ℕ, Bool, true, false, List, [], ◌∷◌}
 use Rattle.java_syntax.specs.Derives.{Lexeme}
 use Rattle.java_syntax.specs.StatementTrees as tree
 use Rattle.java_syntax.specs.declared.actions.TokenAction.{TokenAction}
@@ -7,10 +7,10 @@ use Rattle.java_syntax.specs.declared.actions.TokenAction.TheVariants as action
 use Rattle.java_values.specs.Values as kinds
 use Rattle.java_values.specs.Values.{Kind, ValueTree}
 use Rattle.java_values.specs.Kinds.{Values, ◌▷◌, bottom, taken, resume}
-use Rattle.java_nested_trees.specs.Outcomes.{Outcome, Made, ◌>>=◌, node}
-use Rattle.java_expression_nodes.specs.Nodes.{literal_node, this_node, postfix_step_node}
-use Rattle.java_expression_nodes.specs.Operators.{infix_operator, step_operator}
-use Rattle.java_expression_nodes.specs.Parts.{name_at, extended, with_identifier, primitive_at, level_of, closed, comparison}
+use Rattle.java_values.specs.Outcomes.{Outcome, Made, ◌>>=◌, node}
+use Rattle.java_nodes.specs.Nodes.{literal_node, this_node, postfix_step_node}
+use Rattle.java_nodes.specs.Operators.{infix_operator, step_operator}
+use Rattle.java_nodes.specs.Parts.{name_at, extended, with_identifier, primitive_at, level_of, closed, comparison}
 
 abbrev pub takes_token : TokenAction → List Kind
 takes_token action.Place = []
@@ -88,3 +88,32 @@ act_token limit t action.ConstructorBody (all ▷ call ▷ opened ▷ bottom) = 
 -- what an action does on a stack
 unfoldable pub perform_token : ℕ → Lexeme → TokenAction → List ValueTree → Outcome (List ValueTree)
 perform_token limit t a s = resume (takes_token a) (leaves_token a) (act_token limit t a) (taken (takes_token a) s)
+
+-- the actions of the token, its place, names and primitive types
+abbrev pub is_of_names : TokenAction → Bool
+is_of_names action.Place = true
+is_of_names action.Keep = true
+is_of_names action.Name = true
+is_of_names action.ExtendName = true
+is_of_names action.FirstIdentifier = true
+is_of_names action.NextIdentifier = true
+is_of_names action.PrimitiveType = true
+is_of_names _ = false
+
+-- the actions of operands and operators
+abbrev pub is_of_operands : TokenAction → Bool
+is_of_operands action.Literal = true
+is_of_operands action.This = true
+is_of_operands action.Increment = true
+is_of_operands action.Operator = true
+is_of_operands action.InstanceOperator = true
+is_of_operands _ = false
+
+-- the actions with which statements and bodies end
+abbrev pub is_of_ends : TokenAction → Bool
+is_of_ends action.EmptyStatement = true
+is_of_ends action.Break = true
+is_of_ends action.Continue = true
+is_of_ends action.Block = true
+is_of_ends action.ConstructorBody = true
+is_of_ends _ = false

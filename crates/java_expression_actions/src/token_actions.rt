@@ -1,131 +1,60 @@
-ghost use Rattle.std.specs.Prelude.{◌∷◌, ℕ};
-ghost use Rattle.java_nested_trees.specs.NestedTrees.{lexeme_in};
-ghost use Rattle.java_expression_nodes.specs.Closed.{closed_of};
+ghost use Rattle.std.specs.Prelude.{◌≡◌, ◌∷◌, ℕ, true};
+ghost use Rattle.java_values.specs.NestedTrees.{lexeme_in};
+ghost use Rattle.java_nodes.specs.Closed.{closed_of};
 ghost use Rattle.java_values.specs.Values as kinds;
 ghost use Rattle.java_values.specs.Values.{values_of};
 ghost use Rattle.java_values.specs.Kinds.{Fits};
-ghost use Rattle.java_nested_trees.specs.Outcomes.{Gives, IsNoMisfit, Made};
-ghost use Rattle.java_expression_actions.specs.TokenActions.{takes_token, perform_token};
+ghost use Rattle.java_values.specs.Outcomes.{Gives, IsNoMisfit, Made};
+ghost use Rattle.java_expression_actions.specs.TokenActions.{takes_token, perform_token, is_of_names, is_of_operands, is_of_ends};
 ghost use Rattle.java_syntax.specs.declared.actions.TokenAction.TheVariants as action;
 
-use java_expression_nodes::{
-    COMPARISON, Closed, close_operations, extended, infix_operator, level_of, literal, name_at,
-    postfix_step, primitive_at, step_operator, this, with_identifier, with_operator,
+use java_nodes::{
+    COMPARISON, Closed, block, close_operations, extended, infix_operator, level_of, literal,
+    name_at, postfix_step, primitive_at, statement, step_operator, this, with_identifier,
+    with_operator,
 };
-use java_nested_trees::{BuildFail, Identifiers, Lexeme};
-use java_statement_nodes::{block, statement};
 use java_syntax::{ConstructorBody, Stmt, TokenAction};
 use java_values::{
-    Place, Value, leave, leave_expression, leave_statement, pop_expression, pop_identifiers,
-    pop_name, pop_operations, pop_place, pop_statements, pop_super_call,
+    BuildFail, Identifiers, Lexeme, Place, Value, leave, leave_expression, leave_statement,
+    pop_expression, pop_identifiers, pop_name, pop_operations, pop_place, pop_statements,
+    pop_super_call,
 };
 use std::alloc::Global;
 
-/// The place of the token, which an action behind needs.
-#[tactic(auto, unfolding(crate::specs::TokenActions::perform_token))]
-fn place_action(token: Lexeme, stack: &mut Vec<Value>) -> Result<(), BuildFail>
-    ensures { (limit : ℕ) → Gives (λ _. values_of stack.new.items) result (perform_token limit (lexeme_in token) action.Place (values_of stack.old.items)) }
-{
-    leave(stack, Value::Place(Place { pos: token.pos }))
-}
-
-/// A further identifier of a name (JLS 6.2), behind a dot.
-#[tactic(auto, unfolding(crate::specs::TokenActions::perform_token))]
-fn extend_name_action(token: Lexeme, stack: &mut Vec<Value>) -> Result<(), BuildFail>
-    requires { Fits (takes_token action.ExtendName) (values_of stack.old.items) }
-    ensures { (limit : ℕ) → Gives (λ _. values_of stack.new.items) result (perform_token limit (lexeme_in token) action.ExtendName (values_of stack.old.items)) }
-{
-    let name = pop_name(stack);
-    let made = extended(name, token)?;
-    leave(stack, Value::Name(made))
-}
-
-/// The first of identifiers that dots join.
-#[tactic(auto, unfolding(crate::specs::TokenActions::perform_token))]
-fn first_identifier_action(
+/// Does an action that leaves the token, its place, or a name or type that it belongs to.
+#[tactic(auto, using(crate::proofs::TokenActionLaws::name_laws))]
+fn name_action(
     alloc: Global,
     token: Lexeme,
+    action: TokenAction,
     stack: &mut Vec<Value>,
 ) -> Result<(), BuildFail>
-    ensures { (limit : ℕ) → Gives (λ _. values_of stack.new.items) result (perform_token limit (lexeme_in token) action.FirstIdentifier (values_of stack.old.items)) }
+    requires group { is_of_names action ≡ true }
+    requires fits { Fits (takes_token action) (values_of stack.old.items) }
+    ensures { (limit : ℕ) → Gives (λ _. values_of stack.new.items) result (perform_token limit (lexeme_in token) action (values_of stack.old.items)) }
 {
-    leave(
-        stack,
-        Value::Identifiers(Identifiers {
-            first: name_at(token),
-            more: Vec::new(alloc),
-        }),
-    )
-}
-
-/// A further one, behind a dot.
-#[tactic(auto, unfolding(crate::specs::TokenActions::perform_token))]
-fn next_identifier_action(token: Lexeme, stack: &mut Vec<Value>) -> Result<(), BuildFail>
-    requires { Fits (takes_token action.NextIdentifier) (values_of stack.old.items) }
-    ensures { (limit : ℕ) → Gives (λ _. values_of stack.new.items) result (perform_token limit (lexeme_in token) action.NextIdentifier (values_of stack.old.items)) }
-{
-    let names = pop_identifiers(stack);
-    let made = with_identifier(names, name_at(token))?;
-    leave(stack, Value::Identifiers(made))
-}
-
-/// A literal (JLS 3.10).
-#[tactic(auto, unfolding(crate::specs::TokenActions::perform_token))]
-fn literal_action(limit: u32, token: Lexeme, stack: &mut Vec<Value>) -> Result<(), BuildFail>
-    ensures { Gives (λ _. values_of stack.new.items) result (perform_token limit (lexeme_in token) action.Literal (values_of stack.old.items)) }
-{
-    let made = literal(limit, token.text, token.pos);
-    leave_expression(stack, made)
-}
-
-/// `this` (JLS 15.8.3).
-#[tactic(auto, unfolding(crate::specs::TokenActions::perform_token))]
-fn this_action(limit: u32, token: Lexeme, stack: &mut Vec<Value>) -> Result<(), BuildFail>
-    ensures { Gives (λ _. values_of stack.new.items) result (perform_token limit (lexeme_in token) action.This (values_of stack.old.items)) }
-{
-    let made = this(limit, token.pos);
-    leave_expression(stack, made)
-}
-
-/// `++` or `--` behind its operand (JLS 15.14).
-#[tactic(auto, unfolding(crate::specs::TokenActions::perform_token))]
-fn increment_action(
-    alloc: Global,
-    limit: u32,
-    token: Lexeme,
-    stack: &mut Vec<Value>,
-) -> Result<(), BuildFail>
-    requires { Fits (takes_token action.Increment) (values_of stack.old.items) }
-    ensures { Gives (λ _. values_of stack.new.items) result (perform_token limit (lexeme_in token) action.Increment (values_of stack.old.items)) }
-{
-    let operand = pop_expression(stack);
-    let made = postfix_step(
-        alloc,
-        limit,
-        step_operator(token.text.bytes()),
-        operand,
-        token.pos,
-    );
-    leave_expression(stack, made)
-}
-
-/// An operator between two operands (JLS 15.17 to 15.24): those before it that bind at least as tight have their right operands now.
-#[tactic(auto, unfolding(crate::specs::TokenActions::perform_token))]
-fn operator_action(
-    alloc: Global,
-    limit: u32,
-    token: Lexeme,
-    stack: &mut Vec<Value>,
-) -> Result<(), BuildFail>
-    requires { Fits (takes_token action.Operator) (values_of stack.old.items) }
-    ensures { Gives (λ _. values_of stack.new.items) result (perform_token limit (lexeme_in token) action.Operator (values_of stack.old.items)) }
-{
-    let right = pop_expression(stack);
-    let waiting = pop_operations(stack);
-    let operator = infix_operator(token.text.bytes());
-    let joined = close_operations(alloc, limit, level_of(operator), right, waiting)?;
-    let operations = with_operator(joined, operator, token.pos)?;
-    leave(stack, Value::Operations(operations))
+    match action {
+        TokenAction::Place => leave(stack, Value::Place(Place { pos: token.pos })),
+        TokenAction::Keep => leave(stack, Value::Token(token)),
+        TokenAction::Name => leave(stack, Value::Name(name_at(token))),
+        TokenAction::ExtendName => {
+            let name = pop_name(stack);
+            let made = extended(name, token)?;
+            leave(stack, Value::Name(made))
+        }
+        TokenAction::FirstIdentifier => {
+            let first = name_at(token);
+            let more = Vec::new(alloc);
+            leave(stack, Value::Identifiers(Identifiers { first, more }))
+        }
+        TokenAction::NextIdentifier => {
+            let names = pop_identifiers(stack);
+            let made = with_identifier(names, name_at(token))?;
+            leave(stack, Value::Identifiers(made))
+        }
+        TokenAction::PrimitiveType => leave(stack, Value::Type(primitive_at(token))),
+        _other => unreachable!(),
+    }
 }
 
 /// Leaves the operators that wait, the left operand of `instanceof`, and its place.
@@ -140,114 +69,82 @@ fn leave_operand(stack: &mut Vec<Value>, joined: Closed, place: Place) -> Result
     word
 }
 
-/// `instanceof` (JLS 15.20.2), which binds as a comparison by order.
-#[tactic(auto, unfolding(crate::specs::TokenActions::perform_token))]
-fn instance_operator_action(
-    alloc: Global,
-    limit: u32,
-    token: Lexeme,
-    stack: &mut Vec<Value>,
-) -> Result<(), BuildFail>
-    requires { Fits (takes_token action.InstanceOperator) (values_of stack.old.items) }
-    ensures { Gives (λ _. values_of stack.new.items) result (perform_token limit (lexeme_in token) action.InstanceOperator (values_of stack.old.items)) }
-{
-    let right = pop_expression(stack);
-    let waiting = pop_operations(stack);
-    let joined = close_operations(alloc, limit, COMPARISON, right, waiting)?;
-    leave_operand(stack, joined, Place { pos: token.pos })
-}
-
-/// `;` as a statement (JLS 14.6).
-#[tactic(auto, unfolding(crate::specs::TokenActions::perform_token))]
-fn empty_statement_action(
-    limit: u32,
-    token: Lexeme,
-    stack: &mut Vec<Value>,
-) -> Result<(), BuildFail>
-    ensures { Gives (λ _. values_of stack.new.items) result (perform_token limit (lexeme_in token) action.EmptyStatement (values_of stack.old.items)) }
-{
-    let made = statement(limit, 0, Stmt::Empty { pos: token.pos }, token.pos);
-    leave_statement(stack, made)
-}
-
-/// `break` (JLS 14.15).
-#[tactic(auto, unfolding(crate::specs::TokenActions::perform_token))]
-fn break_action(limit: u32, token: Lexeme, stack: &mut Vec<Value>) -> Result<(), BuildFail>
-    ensures { Gives (λ _. values_of stack.new.items) result (perform_token limit (lexeme_in token) action.Break (values_of stack.old.items)) }
-{
-    let made = statement(limit, 0, Stmt::Break { pos: token.pos }, token.pos);
-    leave_statement(stack, made)
-}
-
-/// `continue` (JLS 14.16).
-#[tactic(auto, unfolding(crate::specs::TokenActions::perform_token))]
-fn continue_action(limit: u32, token: Lexeme, stack: &mut Vec<Value>) -> Result<(), BuildFail>
-    ensures { Gives (λ _. values_of stack.new.items) result (perform_token limit (lexeme_in token) action.Continue (values_of stack.old.items)) }
-{
-    let made = statement(limit, 0, Stmt::Continue { pos: token.pos }, token.pos);
-    leave_statement(stack, made)
-}
-
-/// A block (JLS 14.2) at its `}`.
-#[tactic(auto, unfolding(crate::specs::TokenActions::perform_token))]
-fn block_action(token: Lexeme, stack: &mut Vec<Value>) -> Result<(), BuildFail>
-    requires { Fits (takes_token action.Block) (values_of stack.old.items) }
-    ensures { (limit : ℕ) → Gives (λ _. values_of stack.new.items) result (perform_token limit (lexeme_in token) action.Block (values_of stack.old.items)) }
-{
-    let all = pop_statements(stack);
-    let opened = pop_place(stack);
-    leave(stack, Value::Block(block(all, opened.pos, token.pos)))
-}
-
-/// The body of a constructor (JLS 8.8.7) at its `}`.
-#[tactic(auto, unfolding(crate::specs::TokenActions::perform_token))]
-fn constructor_body_action(token: Lexeme, stack: &mut Vec<Value>) -> Result<(), BuildFail>
-    requires { Fits (takes_token action.ConstructorBody) (values_of stack.old.items) }
-    ensures { (limit : ℕ) → Gives (λ _. values_of stack.new.items) result (perform_token limit (lexeme_in token) action.ConstructorBody (values_of stack.old.items)) }
-{
-    let all = pop_statements(stack);
-    let call = pop_super_call(stack);
-    let opened = pop_place(stack);
-    leave(
-        stack,
-        Value::ConstructorBody(ConstructorBody {
-            super_call: call,
-            block: block(all, opened.pos, token.pos).tree,
-        }),
-    )
-}
-
-/// Does the action of a table.
-#[tactic(auto, using(crate::proofs::TokenActionLaws::token_laws))]
-fn dispatch_token(
+/// Does an action of a token that is an operand or an operator. Those before an operator between two operands that bind at least
+/// as tight have their right operands now.
+#[tactic(auto, using(crate::proofs::TokenActionLaws::operand_laws))]
+fn operand_action(
     alloc: Global,
     limit: u32,
     token: Lexeme,
     action: TokenAction,
     stack: &mut Vec<Value>,
 ) -> Result<(), BuildFail>
+    requires group { is_of_operands action ≡ true }
     requires fits { Fits (takes_token action) (values_of stack.old.items) }
-    requires meant { IsNoMisfit (perform_token limit (lexeme_in token) action (values_of stack.old.items)) }
     ensures { Gives (λ _. values_of stack.new.items) result (perform_token limit (lexeme_in token) action (values_of stack.old.items)) }
 {
     match action {
-        TokenAction::Place => place_action(token, stack),
-        TokenAction::Keep => leave(stack, Value::Token(token)),
-        TokenAction::Name => leave(stack, Value::Name(name_at(token))),
-        TokenAction::ExtendName => extend_name_action(token, stack),
-        TokenAction::FirstIdentifier => first_identifier_action(alloc, token, stack),
-        TokenAction::NextIdentifier => next_identifier_action(token, stack),
-        TokenAction::PrimitiveType => leave(stack, Value::Type(primitive_at(token))),
-        TokenAction::Literal => literal_action(limit, token, stack),
-        TokenAction::This => this_action(limit, token, stack),
-        TokenAction::Increment => increment_action(alloc, limit, token, stack),
-        TokenAction::Operator => operator_action(alloc, limit, token, stack),
-        TokenAction::InstanceOperator => instance_operator_action(alloc, limit, token, stack),
-        TokenAction::EmptyStatement => empty_statement_action(limit, token, stack),
-        TokenAction::Break => break_action(limit, token, stack),
-        TokenAction::Continue => continue_action(limit, token, stack),
-        TokenAction::Block => block_action(token, stack),
-        TokenAction::ConstructorBody => constructor_body_action(token, stack),
+        TokenAction::Literal => leave_expression(stack, literal(limit, token.text, token.pos)),
+        TokenAction::This => leave_expression(stack, this(limit, token.pos)),
+        TokenAction::Increment => {
+            let operand = pop_expression(stack);
+            let operator = step_operator(token.text.bytes());
+            let made = postfix_step(alloc, limit, operator, operand, token.pos);
+            leave_expression(stack, made)
+        }
+        TokenAction::Operator => {
+            let right = pop_expression(stack);
+            let waiting = pop_operations(stack);
+            let operator = infix_operator(token.text.bytes());
+            let joined = close_operations(alloc, limit, level_of(operator), right, waiting)?;
+            let operations = with_operator(joined, operator, token.pos)?;
+            leave(stack, Value::Operations(operations))
+        }
+        TokenAction::InstanceOperator => {
+            let right = pop_expression(stack);
+            let waiting = pop_operations(stack);
+            let joined = close_operations(alloc, limit, COMPARISON, right, waiting)?;
+            leave_operand(stack, joined, Place { pos: token.pos })
+        }
+        _other => unreachable!(),
+    }
+}
+
+/// Does an action of a token with which a statement or a body ends.
+#[tactic(auto, using(crate::proofs::TokenActionLaws::end_laws))]
+fn end_action(
+    limit: u32,
+    token: Lexeme,
+    action: TokenAction,
+    stack: &mut Vec<Value>,
+) -> Result<(), BuildFail>
+    requires group { is_of_ends action ≡ true }
+    requires fits { Fits (takes_token action) (values_of stack.old.items) }
+    ensures { Gives (λ _. values_of stack.new.items) result (perform_token limit (lexeme_in token) action (values_of stack.old.items)) }
+{
+    let pos = token.pos;
+    match action {
+        TokenAction::EmptyStatement => {
+            leave_statement(stack, statement(limit, 0, Stmt::Empty { pos }, pos))
+        }
+        TokenAction::Break => leave_statement(stack, statement(limit, 0, Stmt::Break { pos }, pos)),
+        TokenAction::Continue => {
+            leave_statement(stack, statement(limit, 0, Stmt::Continue { pos }, pos))
+        }
+        TokenAction::Block => {
+            let all = pop_statements(stack);
+            let opened = pop_place(stack);
+            leave(stack, Value::Block(block(all, opened.pos, pos)))
+        }
+        TokenAction::ConstructorBody => {
+            let all = pop_statements(stack);
+            let super_call = pop_super_call(stack);
+            let opened = pop_place(stack);
+            let block = block(all, opened.pos, pos).tree;
+            let body = ConstructorBody { super_call, block };
+            leave(stack, Value::ConstructorBody(body))
+        }
+        _other => unreachable!(),
     }
 }
 
@@ -256,6 +153,7 @@ fn dispatch_token(
 /// # Errors
 ///
 /// `TooDeep` where what it makes would be deeper than the limit.
+#[tactic(auto, using(crate::proofs::TokenActionLaws::token_fits))]
 pub fn perform_token_action(
     alloc: Global,
     limit: u32,
@@ -266,5 +164,23 @@ pub fn perform_token_action(
     requires { IsNoMisfit (perform_token limit (lexeme_in token) action (values_of stack.old.items)) }
     ensures { Gives (λ _. values_of stack.new.items) result (perform_token limit (lexeme_in token) action (values_of stack.old.items)) }
 {
-    dispatch_token(alloc, limit, token, action, stack)
+    match action {
+        TokenAction::Place
+        | TokenAction::Keep
+        | TokenAction::Name
+        | TokenAction::ExtendName
+        | TokenAction::FirstIdentifier
+        | TokenAction::NextIdentifier
+        | TokenAction::PrimitiveType => name_action(alloc, token, action, stack),
+        TokenAction::Literal
+        | TokenAction::This
+        | TokenAction::Increment
+        | TokenAction::Operator
+        | TokenAction::InstanceOperator => operand_action(alloc, limit, token, action, stack),
+        TokenAction::EmptyStatement
+        | TokenAction::Break
+        | TokenAction::Continue
+        | TokenAction::Block
+        | TokenAction::ConstructorBody => end_action(limit, token, action, stack),
+    }
 }

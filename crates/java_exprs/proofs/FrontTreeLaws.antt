@@ -10,15 +10,15 @@ use Rattle.java_syntax.specs.Derives.{Lexeme, Step}
 use Rattle.java_syntax.specs.ExpressionTrees.{ExprTree}
 use Rattle.java_syntax.specs.AnnotationTrees.{AnnoTree}
 use Rattle.java_grammar.specs.Fronts.{IsClosedFront}
-use Rattle.java_nested_trees.specs.NestedTrees.{Nested}
+use Rattle.java_values.specs.NestedTrees.{Nested}
 use Rattle.java_values.specs.Values.{ValueTree, AExpression, AType, AAnnotations}
 use Rattle.java_values.specs.Values as kinds
 use Rattle.java_values.specs.Kinds.{kind_of}
-use Rattle.java_nested_trees.specs.Outcomes.{Made, IsNoMisfit}
-use Rattle.java_meaning.specs.Evaluation.{evaluate}
-use Rattle.java_meaning.specs.SymbolKinds.{symbol_takes, symbol_leaves}
-use Rattle.java_meaning.proofs.TableTest.{not_inside}
-use Rattle.java_meaning.proofs.Sense.{whole, fine_meant, fine_kinds, alone}
+use Rattle.java_values.specs.Outcomes.{Made, IsNoMisfit}
+use Rattle.java_exprs.specs.Evaluation.{evaluate}
+use Rattle.java_exprs.specs.SymbolKinds.{symbol_takes, symbol_leaves}
+use Rattle.java_exprs.proofs.TableTest.{not_inside}
+use Rattle.java_exprs.proofs.Sense.{whole, fine_meant, fine_kinds, alone}
 use Rattle.java_exprs.specs.FrontTrees.{IsFrontTree, IsFrontValues, IsFrontStop, shows_expression, shows_type, shows_annotations}
 
 same_values : (s t : List ValueTree) → Made s ≡ Made t → s ≡ t

@@ -14,9 +14,9 @@ use Rattle.java_syntax.specs.AnnotationTrees.{AnnoTree}
 use Rattle.java_grammar.specs.declared.machine.DeriveFail.TheVariants as fails
 use Rattle.java_grammar.specs.Fronts.{IsClosedFront, HasNoFront}
 use Rattle.java_values.specs.Values.{ValueTree, AExpression, AType, AAnnotations}
-use Rattle.java_nested_trees.specs.Outcomes.{Made, TooDeep}
-use Rattle.java_nested_trees.specs.Lists.{none_of}
-use Rattle.java_meaning.specs.Evaluation.{evaluate}
+use Rattle.java_values.specs.Outcomes.{Made, TooDeep}
+use Rattle.java_values.specs.Lists.{none_of}
+use Rattle.java_exprs.specs.Evaluation.{evaluate}
 
 -- The first tokens, so many of them, are the closed front of the symbol, and on this stack its derivation leaves these values in these levels, the top first.
 pub record IsFrontValues (symbol : Symbol) (limit : ℕ) (start : List ValueTree) (tokens : List Lexeme) (count : ℕ) (values : List ValueTree) : Type 0 where

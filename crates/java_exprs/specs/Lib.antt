@@ -1,2 +1,3 @@
+pub mod Evaluation
+pub mod SymbolKinds
 pub mod FrontTrees
-pub use Rattle.java_meaning.specs.Evaluation

@@ -7,15 +7,14 @@ ghost use Rattle.java_syntax.specs.AnnotationTrees.{AnnoTree, anno_of};
 ghost use Rattle.java_grammar.specs.Reached.{lexemes_of};
 ghost use Rattle.java_grammar.specs.Fronts.{IsClosedFront};
 ghost use Rattle.java_values.specs.Values.{ValueTree, values_of};
-ghost use Rattle.java_nested_trees.specs.Outcomes.{IsNoMisfit};
-ghost use Rattle.java_meaning.specs.Evaluation.{evaluate};
+ghost use Rattle.java_values.specs.Outcomes.{IsNoMisfit};
+ghost use Rattle.java_exprs.specs.Evaluation.{evaluate};
 ghost use Rattle.java_exprs.specs.FrontTrees.{IsFrontValues, IsExpressionFront, IsTypeFront, IsAnnotationsFront, IsFrontStop, no_annotation};
 
+use crate::{evaluate, no_annotations};
 use java_grammar::{DeriveFail, derive_front};
-use java_meaning::{evaluate, no_annotations};
-use java_nested_trees::BuildFail;
 use java_syntax::{Anno, Expr, Symbol, Token, Typ};
-use java_values::{Value, pop_annotations, pop_expression, pop_typ};
+use java_values::{BuildFail, Value, pop_annotations, pop_expression, pop_typ};
 use rlc_base::{Code, Pos, Refusal, Stop};
 use std::alloc::Global;
 

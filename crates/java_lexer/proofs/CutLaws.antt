@@ -16,8 +16,8 @@ use Rattle.java_syntax.specs.declared.tokens.Token.{Token}
 use Rattle.java_lexer.specs.declared.token.TokenKind.{TokenKind}
 use Rattle.java_lexer.specs.declared.token.TokenKind.TheVariants.{Ident, Reserved, Literal, Separator, Operator}
 use Rattle.java_lexer.specs.Characters.{is_identifier_start, BeginsWith}
-use Rattle.java_words.specs.Words.{is_listed, reserved_words, left_out_words, value_words, separators, operators}
-use Rattle.java_lexer.specs.Words.{class_of}
+use Rattle.java_lexer.specs.Words.{is_listed, reserved_words, left_out_words, value_words, separators, operators}
+use Rattle.java_lexer.specs.TokenClasses.{class_of}
 use Rattle.java_lexer.specs.Reading.{closing_quote}
 use Rattle.java_lexer.specs.Tokens.{IsSkipped, IsToken, blank, line_comment, block_comment, identifier, reserved, named_value, integer, character, string, separator, operator}
 use Rattle.java_lexer.specs.Refusals.{Refuses, by_byte, by_comment, by_text, by_literal, by_word, IsBadByte, bad_byte, IsOpenComment, open_comment, IsOpenText, open_character, open_string, IsBadLiteral, bad_number, fraction, bad_character, bad_string, text_block, IsLeftOutWord}

@@ -12,7 +12,7 @@ use Rattle.rlc_base.specs.declared.code.Code.TheVariants.{OpenComment, BadLitera
 use Rattle.java_lexer.specs.declared.fronts.Front.TheVariants.{Piece, Refused}
 use Rattle.java_lexer.specs.declared.token.TokenKind.TheVariants.{Separator, Operator}
 use Rattle.java_lexer.specs.Characters.{is_blank, is_line_end}
-use Rattle.java_words.specs.Words.{is_listed, separators, operators, longest_listed}
+use Rattle.java_lexer.specs.Words.{is_listed, separators, operators, longest_listed}
 use Rattle.java_lexer.specs.Tokens.{comment_end, IsSkipped, IsPiece, blank, line_comment, block_comment, separator, operator, skipped, token}
 use Rattle.java_lexer.specs.Refusals.{by_comment, by_literal, open_comment, fraction}
 use Rattle.java_lexer.specs.Cut.{IsFront}

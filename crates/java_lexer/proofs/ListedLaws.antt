@@ -5,7 +5,7 @@ use Rattle.std.specs.List.{list_all, starts_with}
 use Rattle.std.specs.Str.{bytes_eq}
 use Rattle.std.proofs.lemmas.Bool.{and_parts, or_cases, or_left, or_right, false≢true, eqb-true, cases_lt}
 use Rattle.std.proofs.lemmas.List.{length-take, length-take-le}
-use Rattle.java_words.specs.Words.{is_listed, longest_listed}
+use Rattle.java_lexer.specs.Words.{is_listed, longest_listed}
 
 pub same_bytes : (xs ys : List ℕ) → bytes_eq xs ys ≡ true → xs ≡ ys
 same_bytes [] [] e = refl

@@ -10,7 +10,7 @@ use Rattle.rlc_base.specs.declared.code.Code.{Code}
 use Rattle.rlc_base.specs.declared.code.Code.TheVariants.{BadByte, OpenComment, OpenText, BadLiteral, LeftOutWord}
 use Rattle.java_lexer.specs.declared.token.TokenKind.{TokenKind}
 use Rattle.java_lexer.specs.Characters.{is_line_end, is_identifier_start, BeginsWith, IsIdentifier}
-use Rattle.java_words.specs.Words.{is_listed, reserved_words, left_out_words, value_words, is_special_word, separators, operators}
+use Rattle.java_lexer.specs.Words.{is_listed, reserved_words, left_out_words, value_words, is_special_word, separators, operators}
 use Rattle.java_lexer.specs.Literals.{is_integer, is_character}
 use Rattle.java_lexer.specs.Reading.{closing_quote, has_known_escapes}
 use Rattle.java_lexer.specs.Tokens.{comment_end, IsSkipped, IsToken, IsPiece, blank, line_comment, block_comment, identifier, reserved, named_value, integer, character, string, separator, operator, skipped, token}

@@ -6,7 +6,7 @@ use Rattle.std.proofs.lemmas.Bool.{and_parts, and_right, or_cases, or_from, or_p
 use Rattle.std.proofs.lemmas.Str.{char_from_byte}
 use Rattle.unicode_ident.proofs.IdentLemmas.{is_xid_start-ascii}
 use Rattle.java_lexer.specs.Characters.{is_blank, is_line_end, is_identifier_start, BeginsWith}
-use Rattle.java_words.specs.Words.{is_listed, reserved_words, left_out_words, value_words, is_special_word, separators, operators}
+use Rattle.java_lexer.specs.Words.{is_listed, reserved_words, left_out_words, value_words, is_special_word, separators, operators}
 use Rattle.java_lexer.specs.Refusals.{begins_other_piece}
 use Rattle.java_lexer.proofs.ListedLaws.{listed_passes}
 

@@ -16,7 +16,7 @@ use Rattle.rlc_base.specs.declared.code.Code.TheVariants.{BadByte, BadLiteral, L
 use Rattle.java_lexer.specs.declared.fronts.Front.TheVariants.{Piece, Refused}
 use Rattle.java_lexer.specs.declared.token.TokenKind.TheVariants.{Literal}
 use Rattle.java_lexer.specs.Characters.{is_identifier_start, is_identifier_part, BeginsWith, IsRun, IsIdentifier}
-use Rattle.java_words.specs.Words.{is_listed, reserved_words, left_out_words, value_words, is_special_word, separators, operators, longest_listed}
+use Rattle.java_lexer.specs.Words.{is_listed, reserved_words, left_out_words, value_words, is_special_word, separators, operators, longest_listed}
 use Rattle.java_lexer.specs.Literals.{is_integer, is_long}
 use Rattle.java_lexer.specs.Tokens.{IsToken, identifier, reserved, named_value, integer, token}
 use Rattle.java_lexer.specs.Refusals.{begins_other_piece, by_byte, by_literal, by_word, bad_byte, bad_number, IsWholeInteger}

@@ -12,7 +12,7 @@ use Rattle.java_syntax.specs.declared.tokens.Token.{Token}
 use Rattle.java_lexer.specs.declared.token.TokenKind.{TokenKind}
 use Rattle.java_syntax.specs.Derives.{text_of}
 use Rattle.java_lexer.specs.Characters.{is_line_end}
-use Rattle.java_lexer.specs.Words.{class_of}
+use Rattle.java_lexer.specs.TokenClasses.{class_of}
 use Rattle.java_lexer.specs.Tokens.{IsSkipped, IsToken, IsPiece}
 use Rattle.java_lexer.specs.Refusals.{Refuses}
 

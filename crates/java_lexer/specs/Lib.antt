@@ -1,5 +1,6 @@
-pub mod Characters
 pub mod Words
+pub mod Characters
+pub mod TokenClasses
 pub mod Literals
 pub mod Tokens
 pub mod Refusals

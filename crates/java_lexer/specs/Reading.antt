@@ -17,7 +17,7 @@ use Rattle.java_lexer.specs.declared.token.TokenKind.TheVariants.{Ident, Reserve
 use Rattle.std.specs.Option.{option_map}
 use Rattle.java_lexer.specs.Characters.{is_line_end}
 use Rattle.java_lexer.specs.Literals.{is_escape}
-use Rattle.java_words.specs.Words.{is_listed, reserved_words, value_words, separators, operators}
+use Rattle.java_lexer.specs.Words.{is_listed, reserved_words, value_words, separators, operators}
 use Rattle.java_lexer.specs.Tokens.{IsSkipped, IsToken}
 use Rattle.java_lexer.specs.Refusals.{Refuses}
 use Rattle.java_lexer.specs.Cut.{IsFront, Stuck, place_behind}

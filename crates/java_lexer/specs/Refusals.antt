@@ -4,7 +4,7 @@ use Rattle.std.specs.Char.{is_ascii_digit}
 use Rattle.rlc_base.specs.declared.code.Code.{Code}
 use Rattle.rlc_base.specs.declared.code.Code.TheVariants.{BadByte, OpenComment, OpenText, BadLiteral, LeftOutWord}
 use Rattle.java_lexer.specs.Characters.{is_blank, is_identifier_start, is_identifier_part, BeginsWith}
-use Rattle.java_words.specs.Words.{is_listed, left_out_words, separators, operators}
+use Rattle.java_lexer.specs.Words.{is_listed, left_out_words, separators, operators}
 use Rattle.java_lexer.specs.Literals.{is_integer, is_long, is_escape, is_on_line, IsBody, is_character}
 use Rattle.java_lexer.specs.Tokens.{comment_end}
 

@@ -5,7 +5,7 @@ use Rattle.std.specs.Option.{option_map}
 use Rattle.java_lexer.specs.declared.token.TokenKind.{TokenKind}
 use Rattle.java_lexer.specs.declared.token.TokenKind.TheVariants.{Ident, Reserved, Literal, Separator, Operator}
 use Rattle.java_lexer.specs.Characters.{is_blank, is_line_end, IsIdentifier}
-use Rattle.java_words.specs.Words.{is_listed, reserved_words, value_words, is_special_word, separators, operators}
+use Rattle.java_lexer.specs.Words.{is_listed, reserved_words, value_words, is_special_word, separators, operators}
 use Rattle.java_lexer.specs.Literals.{is_integer, is_escape, is_on_line, IsBody, is_character}
 
 -- how many bytes of the text the first `*/` in it ends behind

@@ -1,10 +1,10 @@
 ghost use Rattle.std.specs.Prelude.{◌≡◌};
 ghost use Rattle.std.specs.Option.{option_map};
-ghost use Rattle.java_lexer.specs.Words.{class_of};
+ghost use Rattle.java_lexer.specs.TokenClasses.{class_of};
 
 use crate::token::TokenKind;
+use crate::{operator_class, reserved_word_class, separator_class};
 use java_syntax::Word;
-use java_words::{operator_class, reserved_word_class, separator_class};
 
 /// The grammar's class of a token of this kind and text. `Word::Other`, which no production takes, is that of `...`, `::` and `->`.
 pub fn word_of(kind: TokenKind, text: &[u8]) -> Word

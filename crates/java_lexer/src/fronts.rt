@@ -3,7 +3,7 @@ ghost use Rattle.std.specs.Char.{is_ascii_digit};
 ghost use Rattle.std.specs.List.{prefix_len};
 ghost use Rattle.java_lexer.specs.Characters.{is_line_end, is_identifier_start, BeginsWith};
 ghost use Rattle.java_lexer.specs.Literals.{is_integer, is_long};
-ghost use Rattle.java_words.specs.Words.{separators, operators, longest_listed};
+ghost use Rattle.java_lexer.specs.Words.{separators, operators, longest_listed};
 ghost use Rattle.java_lexer.specs.Tokens.{comment_end};
 ghost use Rattle.java_lexer.specs.Refusals.{begins_other_piece};
 ghost use Rattle.java_lexer.specs.Reading.{closing_quote, IsFrontOf, IsSymbolAt, word_kind};
@@ -15,7 +15,7 @@ use crate::literals::{
     byte_at, closing_quote, has_known_escapes, is_character, is_integer, is_long,
 };
 use crate::token::TokenKind;
-use java_words::{is_left_out, is_reserved, is_value, operator_len, separator_len};
+use crate::{is_left_out, is_reserved, is_value, operator_len, separator_len};
 use rlc_base::Code;
 
 /// What a text begins with.

@@ -12,9 +12,9 @@ use Rattle.java_grammar.specs.Refusal.{IsDerivation}
 use Rattle.java_values.specs.Values.{ValueTree, AUnit, AUnits}
 use Rattle.java_values.specs.Values as kinds
 use Rattle.java_values.specs.Kinds.{kind_of}
-use Rattle.java_nested_trees.specs.Outcomes.{Outcome, Made, TooDeep, IsNoMisfit}
-use Rattle.java_meaning.specs.Evaluation.{evaluate}
-use Rattle.java_meaning.proofs.Sense.{whole, fine_meant, fine_kinds, alone}
+use Rattle.java_values.specs.Outcomes.{Outcome, Made, TooDeep, IsNoMisfit}
+use Rattle.java_exprs.specs.Evaluation.{evaluate}
+use Rattle.java_exprs.proofs.Sense.{whole, fine_meant, fine_kinds, alone}
 use Rattle.java_parser.specs.FileTrees.{IsFileValues, IsFileStop, HasNoUnit, HasNoStub}
 
 same_values : (s t : List ValueTree) → Made s ≡ Made t → s ≡ t

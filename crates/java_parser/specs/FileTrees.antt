@@ -12,8 +12,8 @@ use Rattle.java_syntax.specs.Derives.{Lexeme, lexeme_of, Step}
 use Rattle.java_syntax.specs.DeclarationTrees.{UnitTree}
 use Rattle.java_grammar.specs.Refusal.{IsDerivation, IsWrongAt}
 use Rattle.java_values.specs.Values.{ValueTree, AUnit, AUnits}
-use Rattle.java_nested_trees.specs.Outcomes.{Made, TooDeep}
-use Rattle.java_meaning.specs.Evaluation.{evaluate}
+use Rattle.java_values.specs.Outcomes.{Made, TooDeep}
+use Rattle.java_exprs.specs.Evaluation.{evaluate}
 
 -- The tokens are derived from the symbol, in a stub file or a source file, and this is what their derivation leaves in 128 levels.
 pub record IsFileValues (stub : Bool) (symbol : Symbol) (tokens : List Lexeme) (values : List ValueTree) : Type 0 where

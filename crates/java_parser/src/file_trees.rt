@@ -5,15 +5,14 @@ ghost use Rattle.java_syntax.specs.declared.symbols.Symbol.TheVariants as symbol
 ghost use Rattle.java_grammar.specs.Reached.{lexemes_of};
 ghost use Rattle.java_grammar.specs.Refusal.{IsDerivation};
 ghost use Rattle.java_values.specs.Values.{ValueTree, values_of};
-ghost use Rattle.java_nested_trees.specs.Outcomes.{IsNoMisfit};
-ghost use Rattle.java_meaning.specs.Evaluation.{evaluate};
+ghost use Rattle.java_values.specs.Outcomes.{IsNoMisfit};
+ghost use Rattle.java_exprs.specs.Evaluation.{evaluate};
 ghost use Rattle.java_parser.specs.FileTrees.{IsFileValues, IsUnitTree, IsStubTree, IsFileStop};
 
+use java_exprs::evaluate;
 use java_grammar::{DeriveFail, derive};
-use java_meaning::evaluate;
-use java_nested_trees::BuildFail;
 use java_syntax::{Symbol, Token, Unit};
-use java_values::{Value, pop_unit, pop_units};
+use java_values::{BuildFail, Value, pop_unit, pop_units};
 use rlc_base::{Code, Pos, Refusal, Stop};
 use std::alloc::Global;
 

@@ -1,5 +1,5 @@
 -- The actions of declarations: the kinds of the values that each takes, the top first, those that it leaves, and what it makes.
-use Rattle.std.specs.Prelude.{ℕ, ◌+◌, List, [], ◌∷◌, ◌++◌, Some, None, true, false}
+use Rattle.std.specs.Prelude.{ℕ, ◌+◌, Bool, true, false, List, [], ◌∷◌, ◌++◌, Some, None}
 use Rattle.java_syntax.specs.StatementTrees.{StmtTree}
 use Rattle.java_syntax.specs.DeclarationTrees.{FieldOf, MethodOf, ConstructorOf}
 use Rattle.java_syntax.specs.declared.actions.DeclarationAction.{DeclarationAction}
@@ -7,9 +7,9 @@ use Rattle.java_syntax.specs.declared.actions.DeclarationAction.TheVariants as a
 use Rattle.java_values.specs.Values as kinds
 use Rattle.java_values.specs.Values.{Kind, ValueTree}
 use Rattle.java_values.specs.Kinds.{Values, ◌▷◌, bottom, taken, resume}
-use Rattle.java_nested_trees.specs.Outcomes.{Outcome, Made}
-use Rattle.java_nested_trees.specs.Lists.{none_of, added}
-use Rattle.java_statement_nodes.specs.Parts.{unit_node}
+use Rattle.java_values.specs.Outcomes.{Outcome, Made}
+use Rattle.java_values.specs.Lists.{none_of, added}
+use Rattle.java_nodes.specs.StatementParts.{unit_node}
 
 abbrev pub takes_declaration : DeclarationAction → List Kind
 takes_declaration action.NoName = []
@@ -98,3 +98,49 @@ act_declaration limit action.FirstStatement (first ▷ bottom) = Made ((added (n
 -- what an action does on a stack
 unfoldable pub perform_declaration : ℕ → DeclarationAction → List ValueTree → Outcome (List ValueTree)
 perform_declaration limit a s = resume (takes_declaration a) (leaves_declaration a) (act_declaration limit a) (taken (takes_declaration a) s)
+
+-- the actions of names that may be absent, imports and sections
+abbrev pub is_of_files : DeclarationAction → Bool
+is_of_files action.NoName = true
+is_of_files action.SomeName = true
+is_of_files action.NoImports = true
+is_of_files action.Import = true
+is_of_files action.ImportAll = true
+is_of_files action.Unit = true
+is_of_files action.NoUnits = true
+is_of_files action.AndUnit = true
+is_of_files _ = false
+
+-- the actions of classes and interfaces
+abbrev pub is_of_classes : DeclarationAction → Bool
+is_of_classes action.NoTypes = true
+is_of_classes action.Class = true
+is_of_classes action.Interface = true
+is_of_classes _ = false
+
+-- the actions of results and parameters
+abbrev pub is_of_heads : DeclarationAction → Bool
+is_of_heads action.NoMembers = true
+is_of_heads action.NoResult = true
+is_of_heads action.SomeResult = true
+is_of_heads action.Method = true
+is_of_heads action.NoParameters = true
+is_of_heads action.Parameter = true
+is_of_heads action.Receiver = true
+is_of_heads _ = false
+
+-- the actions of fields and methods
+abbrev pub is_of_members : DeclarationAction → Bool
+is_of_members action.Field = true
+is_of_members action.MethodBody = true
+is_of_members action.MethodHead = true
+is_of_members _ = false
+
+-- the actions of constructors
+abbrev pub is_of_constructors : DeclarationAction → Bool
+is_of_constructors action.Constructor = true
+is_of_constructors action.ConstructorHead = true
+is_of_constructors action.NoSuperCall = true
+is_of_constructors action.SuperCall = true
+is_of_constructors action.FirstStatement = true
+is_of_constructors _ = false

@@ -1,5 +1,5 @@
 -- The actions of statements: the kinds of the values that each takes, the top first, those that it leaves, and what it makes.
-use Rattle.std.specs.Prelude.{ℕ, ◌+◌, max, List, [], ◌∷◌, ◌++◌, Some, None}
+use Rattle.std.specs.Prelude.{ℕ, ◌+◌, max, Bool, true, false, List, [], ◌∷◌, ◌++◌, Some, None}
 use Rattle.java_syntax.specs.ExpressionTrees.{ExprTree}
 use Rattle.java_syntax.specs.AnnotationTrees.{ModifierTree}
 use Rattle.java_syntax.specs.StatementTrees as tree
@@ -9,9 +9,9 @@ use Rattle.java_syntax.specs.declared.actions.StatementAction.TheVariants as act
 use Rattle.java_values.specs.Values as kinds
 use Rattle.java_values.specs.Values.{Kind, ValueTree}
 use Rattle.java_values.specs.Kinds.{Values, ◌▷◌, bottom, taken, resume}
-use Rattle.java_nested_trees.specs.Outcomes.{Outcome, Made, ◌>>=◌, node}
-use Rattle.java_nested_trees.specs.Lists.{none_of, added}
-use Rattle.java_statement_nodes.specs.Parts.{variable_node, plain_variable_node, local_node, resource_node, catch_node, try_node, try_finally_node}
+use Rattle.java_values.specs.Outcomes.{Outcome, Made, ◌>>=◌, node}
+use Rattle.java_values.specs.Lists.{none_of, added}
+use Rattle.java_nodes.specs.StatementParts.{variable_node, plain_variable_node, local_node, resource_node, catch_node, try_node, try_finally_node}
 
 abbrev pub takes_statement : StatementAction → List Kind
 takes_statement action.FirstVariable = kinds.name ∷ []
@@ -138,3 +138,53 @@ act_statement limit action.AndName (one ▷ all ▷ bottom) = Made ((all ++ one 
 -- what an action does on a stack
 unfoldable pub perform_statement : ℕ → StatementAction → List ValueTree → Outcome (List ValueTree)
 perform_statement limit a s = resume (takes_statement a) (leaves_statement a) (act_statement limit a) (taken (takes_statement a) s)
+
+-- the actions of declarations of variables
+abbrev pub is_of_variables : StatementAction → Bool
+is_of_variables action.FirstVariable = true
+is_of_variables action.Variable = true
+is_of_variables action.PlainVariable = true
+is_of_variables action.PlainLocal = true
+is_of_variables action.ModifiedLocal = true
+is_of_variables _ = false
+
+-- the actions of lists
+abbrev pub is_of_lists : StatementAction → Bool
+is_of_lists action.NoStatements = true
+is_of_lists action.AndStatement = true
+is_of_lists action.NoResources = true
+is_of_lists action.Resource = true
+is_of_lists action.NoCatches = true
+is_of_lists action.Catch = true
+is_of_lists action.NoNames = true
+is_of_lists action.AndName = true
+is_of_lists action.FirstExpression = true
+is_of_lists _ = false
+
+-- the actions of statements that have no other in them, and of an expression that may be absent
+abbrev pub is_of_plain_statements : StatementAction → Bool
+is_of_plain_statements action.LocalStatement = true
+is_of_plain_statements action.ExpressionStatement = true
+is_of_plain_statements action.Return = true
+is_of_plain_statements action.Throw = true
+is_of_plain_statements action.SomeExpression = true
+is_of_plain_statements action.NoExpression = true
+is_of_plain_statements _ = false
+
+-- the actions of blocks, `if` and `try`
+abbrev pub is_of_nesting_statements : StatementAction → Bool
+is_of_nesting_statements action.BlockStatement = true
+is_of_nesting_statements action.If = true
+is_of_nesting_statements action.IfElse = true
+is_of_nesting_statements action.Try = true
+is_of_nesting_statements action.TryFinally = true
+is_of_nesting_statements _ = false
+
+-- the actions of loops
+abbrev pub is_of_loops : StatementAction → Bool
+is_of_loops action.While = true
+is_of_loops action.Do = true
+is_of_loops action.For = true
+is_of_loops action.ForLocal = true
+is_of_loops action.ForExpressions = true
+is_of_loops _ = false

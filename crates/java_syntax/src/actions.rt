@@ -1,5 +1,5 @@
 /// What an action of the grammar's table does: it takes values from the stack and leaves values there.
-#[derive(Copy, Clone, PartialEq, Eq)]
+#[derive(Copy, Clone)]
 pub enum Action {
     /// An action that looks at the last token.
     Token(TokenAction),
@@ -14,7 +14,7 @@ pub enum Action {
 }
 
 /// The actions at a token: the last one that was taken.
-#[derive(Copy, Clone, PartialEq, Eq)]
+#[derive(Copy, Clone)]
 pub enum TokenAction {
     /// The place of the token, which an action behind needs.
     Place,
@@ -53,7 +53,7 @@ pub enum TokenAction {
 }
 
 /// The actions of expressions, names and types.
-#[derive(Copy, Clone, PartialEq, Eq)]
+#[derive(Copy, Clone)]
 pub enum ExpressionAction {
     /// No expression of a list yet.
     NoExpressions,
@@ -124,7 +124,7 @@ pub enum ExpressionAction {
 }
 
 /// The actions of annotations and modifiers.
-#[derive(Copy, Clone, PartialEq, Eq)]
+#[derive(Copy, Clone)]
 pub enum AnnotationAction {
     /// No argument of an annotation yet.
     NoArguments,
@@ -167,7 +167,7 @@ pub enum AnnotationAction {
 }
 
 /// The actions of statements.
-#[derive(Copy, Clone, PartialEq, Eq)]
+#[derive(Copy, Clone)]
 pub enum StatementAction {
     /// The first name that a declaration declares.
     FirstVariable,
@@ -232,7 +232,7 @@ pub enum StatementAction {
 }
 
 /// The actions of declarations.
-#[derive(Copy, Clone, PartialEq, Eq)]
+#[derive(Copy, Clone)]
 pub enum DeclarationAction {
     /// No name is written.
     NoName,

@@ -10,7 +10,7 @@ pub struct Name {
 }
 
 /// The primitive types of the subset (JLS 4.2).
-#[derive(Clone, Copy, PartialEq, Eq)]
+#[derive(Clone, Copy)]
 pub enum PrimitiveName {
     /// `boolean`.
     Boolean,

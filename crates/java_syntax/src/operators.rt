@@ -1,5 +1,5 @@
 /// The operators before one operand (JLS 15.15), but `++` and `--`.
-#[derive(Clone, Copy, PartialEq, Eq)]
+#[derive(Clone, Copy)]
 pub enum PrefixOperator {
     /// `+`.
     Plus,
@@ -12,7 +12,7 @@ pub enum PrefixOperator {
 }
 
 /// `++` and `--` (JLS 15.14, 15.15).
-#[derive(Clone, Copy, PartialEq, Eq)]
+#[derive(Clone, Copy)]
 pub enum StepOperator {
     /// `++`.
     Increment,
@@ -21,7 +21,7 @@ pub enum StepOperator {
 }
 
 /// The operators between two operands (JLS 15.17 to 15.24), but `instanceof`.
-#[derive(Clone, Copy, PartialEq, Eq)]
+#[derive(Clone, Copy)]
 pub enum InfixOperator {
     /// `*`.
     Multiply,

@@ -1,5 +1,5 @@
 /// The productions of declarations and annotations, each with its right side; of several operators one stands for all.
-#[derive(Copy, Clone, PartialEq, Eq)]
+#[derive(Copy, Clone)]
 pub enum DeclarationProduction {
     /// CompilationUnit: OptionalPackage Imports Types.
     UnitOf,
@@ -236,7 +236,7 @@ pub enum DeclarationProduction {
 }
 
 /// The productions of statements, each with its right side; of several operators one stands for all.
-#[derive(Copy, Clone, PartialEq, Eq)]
+#[derive(Copy, Clone)]
 pub enum StatementProduction {
     /// Block: `{` Statements `}`.
     BlockOf,
@@ -403,7 +403,7 @@ pub enum StatementProduction {
 }
 
 /// The productions of expressions, each with its right side; of several operators one stands for all.
-#[derive(Copy, Clone, PartialEq, Eq)]
+#[derive(Copy, Clone)]
 pub enum ExpressionProduction {
     /// Expression: Identifier Call Suffixes ExpressionTail.
     NameExpression,
@@ -576,7 +576,7 @@ pub enum ExpressionProduction {
 }
 
 /// The productions of the grammar.
-#[derive(Copy, Clone, PartialEq, Eq)]
+#[derive(Copy, Clone)]
 pub enum Production {
     /// One of declarations and annotations.
     Declare(DeclarationProduction),

@@ -1,5 +1,5 @@
 /// The modifier words of a declaration so far (JLS 8.1.1, 8.3.1, 8.4.3, 8.8.3).
-#[derive(Copy, Clone, PartialEq, Eq)]
+#[derive(Copy, Clone)]
 pub struct Modifiers {
     /// `public`, `protected` or `private` stands there.
     pub has_access: bool,
@@ -14,7 +14,7 @@ pub struct Modifiers {
 }
 
 /// Where a declaration stands.
-#[derive(Copy, Clone, PartialEq, Eq)]
+#[derive(Copy, Clone)]
 pub enum Owner {
     /// On the file's level: it declares a class or an interface.
     File,

@@ -3,7 +3,7 @@ use crate::words::{Effect, Word};
 
 /// The symbols of the grammar, each with its name in JLS chapter 19, or the part of such a symbol that it is: the grammar is
 /// factored from the left, so that the next token decides.
-#[derive(Copy, Clone, PartialEq, Eq)]
+#[derive(Copy, Clone)]
 pub enum Symbol {
     /// CompilationUnit (JLS 7.3): a source file.
     CompilationUnit,
@@ -250,7 +250,7 @@ pub enum Symbol {
 }
 
 /// An item of a production: a word, with its effect, a symbol, or an action.
-#[derive(Copy, Clone, PartialEq, Eq)]
+#[derive(Copy, Clone)]
 pub enum Item {
     /// A word.
     Take(Word, Effect),

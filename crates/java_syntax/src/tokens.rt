@@ -4,7 +4,7 @@ use crate::words::Word;
 use rlc_base::Pos;
 
 /// A token by its class, with its bytes in the file.
-#[derive(Copy, Clone, PartialEq, Eq)]
+#[derive(Copy, Clone)]
 pub struct Token {
     /// Its class.
     pub word: Word,
@@ -17,7 +17,7 @@ pub struct Token {
 }
 
 /// A step of a derivation from the left.
-#[derive(Copy, Clone, PartialEq, Eq)]
+#[derive(Copy, Clone)]
 pub enum Event {
     /// A token was read.
     Took(Token),

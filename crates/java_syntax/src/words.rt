@@ -114,7 +114,7 @@ pub enum Word {
 }
 
 /// What a word of a production changes of what later conditions look at.
-#[derive(Copy, Clone, PartialEq, Eq)]
+#[derive(Copy, Clone)]
 pub enum Effect {
     /// Nothing that could be assigned or that stands as a statement ends here.
     Passes,

@@ -1,7 +1,7 @@
 -- What is taken from a stack by its kinds, and what is left there.
 use Rattle.std.specs.Prelude.{◌≡◌, true, false, List, [], ◌∷◌, ◌++◌, map, Option, Some, None, is_some}
 use Rattle.std.proofs.Common.{refl, sym, ◌∙◌, ap, subst, arith}
-use Rattle.java_nested_trees.specs.Outcomes.{Outcome, Made, TooDeep, Misfit, ◌>>=◌, IsNoMisfit}
+use Rattle.java_values.specs.Outcomes.{Outcome, Made, TooDeep, Misfit, ◌>>=◌, IsNoMisfit}
 use Rattle.java_values.specs.Values.{Kind, Value_of, ValueTree, place, token, name, optional_name, identifiers, names, typ, optional_type, expression, optional_expression, expressions, call, operations, parenthesized, annotation, annotations, arguments, annotation_value, annotation_values, modifiers, variables, local, statement, statements, block, for_start, resources, catches, parameters, super_call, constructor_body, members, types, imports, unit, units, APlace, AToken, AName, AOptionalName, AIdentifiers, ANames, AType, AOptionalType, AExpression, AOptionalExpression, AExpressions, ACall, AOperations, AParenthesized, AAnnotation, AAnnotations, AArguments, AAnnotationValue, AAnnotationValues, AModifiers, AVariables, ALocal, AStatement, AStatements, ABlock, AForStart, AResources, ACatches, AParameters, ASuperCall, AConstructorBody, AMembers, ATypes, AImports, AUnit, AUnits}
 use Rattle.java_values.specs.Kinds.{value_at, at_kind, Values, ◌▷◌, bottom, Taken, with_top, taken, put, kind_of, Fits, resume}
 

@@ -1,6 +1,6 @@
 -- What actions take from the stack and leave there.
 use Rattle.std.specs.Prelude.{◌≡◌, ℕ, List, [], ◌∷◌, Option, Some, None}
-use Rattle.java_nested_trees.specs.Outcomes.{Outcome, Made, Misfit, ◌>>=◌}
+use Rattle.java_values.specs.Outcomes.{Outcome, Made, Misfit, ◌>>=◌}
 use Rattle.java_values.specs.Values.{Kind, Value_of, ValueTree, place, token, name, optional_name, identifiers, names, typ, optional_type, expression, optional_expression, expressions, call, operations, parenthesized, annotation, annotations, arguments, annotation_value, annotation_values, modifiers, variables, local, statement, statements, block, for_start, resources, catches, parameters, super_call, constructor_body, members, types, imports, unit, units, APlace, AToken, AName, AOptionalName, AIdentifiers, ANames, AType, AOptionalType, AExpression, AOptionalExpression, AExpressions, ACall, AOperations, AParenthesized, AAnnotation, AAnnotations, AArguments, AAnnotationValue, AAnnotationValues, AModifiers, AVariables, ALocal, AStatement, AStatements, ABlock, AForStart, AResources, ACatches, AParameters, ASuperCall, AConstructorBody, AMembers, ATypes, AImports, AUnit, AUnits}
 
 -- the value, as one of its kind

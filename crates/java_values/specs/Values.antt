@@ -9,7 +9,7 @@ use Rattle.java_syntax.specs.ExpressionTrees.{ExprTree, expr_of}
 use Rattle.java_syntax.specs.AnnotationTrees.{AnnoTree, ArgumentTree, AnnoValueTree, ModifierTree, anno_of, anno_value_of}
 use Rattle.java_syntax.specs.StatementTrees.{VariableTree, LocalTree, ResourceTree, ForStartTree, StmtTree, BlockTree, CatchTree, local_of, for_start_of, stmt_of, block_of}
 use Rattle.java_syntax.specs.DeclarationTrees.{ParamTree, SuperCallTree, ConstructorBodyTree, MemberTree, ClassTree, UnitTree, param_of, super_call_of, constructor_body_of, member_of, class_of, unit_of}
-use Rattle.java_nested_trees.specs.NestedTrees.{Nested, OpenOperationTree, IdentifiersTree, ParenthesizedTree, nested_of, exprs_in, optional_in, annos_in, arguments_in, anno_values_in, modifiers_in, variables_in, stmts_in, resources_in, catches_in, lexeme_in, open_operation_of, identifiers_of, parenthesized_of}
+use Rattle.java_values.specs.NestedTrees.{Nested, OpenOperationTree, IdentifiersTree, ParenthesizedTree, nested_of, exprs_in, optional_in, annos_in, arguments_in, anno_values_in, modifiers_in, variables_in, stmts_in, resources_in, catches_in, lexeme_in, open_operation_of, identifiers_of, parenthesized_of}
 use Rattle.java_values.specs.declared.values.Parameters.{Parameters}
 use Rattle.java_values.specs.declared.values.Value.{Value}
 use Rattle.java_values.specs.declared.values.Value.TheVariants as value
@@ -155,12 +155,12 @@ value_of (value.Parenthesized x) = AParenthesized (parenthesized_of x)
 value_of (value.Annotation x) = AAnnotation (nested_of anno_of x)
 value_of (value.Annotations x) = AAnnotations (nested_of annos_in x)
 value_of (value.Arguments x) = AArguments (nested_of arguments_in x)
-value_of (value.AnnotationValue x) = AAnnotationValue (nested_of anno_value_of x)
+value_of (value.AnnotationValue x) = AAnnotationValue (nested_of anno_value_of x.value)
 value_of (value.AnnotationValues x) = AAnnotationValues (nested_of anno_values_in x)
 value_of (value.Modifiers x) = AModifiers (nested_of modifiers_in x)
 value_of (value.Variables x) = AVariables (nested_of variables_in x)
 value_of (value.Local x) = ALocal (nested_of local_of x)
-value_of (value.Statement x) = AStatement (nested_of stmt_of x)
+value_of (value.Statement x) = AStatement (nested_of stmt_of x.value)
 value_of (value.Statements x) = AStatements (nested_of stmts_in x)
 value_of (value.Block x) = ABlock (nested_of block_of x)
 value_of (value.ForStart x) = AForStart (nested_of for_start_of x)

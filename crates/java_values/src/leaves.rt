@@ -6,15 +6,15 @@ ghost use Rattle.java_syntax.specs.AnnotationTrees.{anno_value_of, modifier_of};
 ghost use Rattle.java_syntax.specs.DeclarationTrees.{member_of};
 ghost use Rattle.java_syntax.specs.ExpressionTrees.{expr_of};
 ghost use Rattle.java_syntax.specs.StatementTrees.{stmt_of};
-ghost use Rattle.java_nested_trees.specs.Outcomes.{Gives, Outcome, Made};
-ghost use Rattle.java_nested_trees.specs.Lists as lists;
+ghost use Rattle.java_values.specs.Outcomes.{Gives, Outcome, Made};
+ghost use Rattle.java_values.specs.Lists as lists;
 ghost use Rattle.java_values.specs.Values as kinds;
-ghost use Rattle.java_nested_trees.specs.NestedTrees.{modifiers_in, nested_of};
+ghost use Rattle.java_values.specs.NestedTrees.{modifiers_in, nested_of};
 ghost use Rattle.java_values.specs.Values.{Value_of, values_of};
 
 use crate::pops::leave;
 use crate::values::Value;
-use java_nested_trees::{BuildFail, Nested, added, appended};
+use crate::{BuildFail, Nested, added, appended, boxed};
 use java_syntax::{AnnoValue, Expr, Member, Modifier, Stmt};
 
 /// Leaves the expression that was made, or fails as its making did.
@@ -38,7 +38,10 @@ pub fn leave_statement(
     ensures { (o : Outcome (Value_of kinds.statement)) → Gives (nested_of stmt_of) made o → Gives (λ _. values_of stack.new.items) result (left kinds.statement o (values_of stack.old.items)) }
 {
     match made {
-        Ok(statement) => leave(stack, Value::Statement(statement)),
+        Ok(statement) => {
+            let held = boxed(*stack.allocator(), statement)?;
+            leave(stack, Value::Statement(held))
+        }
         Err(fail) => Err(fail),
     }
 }
@@ -51,7 +54,10 @@ pub fn leave_annotation_value(
     ensures { (o : Outcome (Value_of kinds.annotation_value)) → Gives (nested_of anno_value_of) made o → Gives (λ _. values_of stack.new.items) result (left kinds.annotation_value o (values_of stack.old.items)) }
 {
     match made {
-        Ok(value) => leave(stack, Value::AnnotationValue(value)),
+        Ok(value) => {
+            let held = boxed(*stack.allocator(), value)?;
+            leave(stack, Value::AnnotationValue(held))
+        }
         Err(fail) => Err(fail),
     }
 }

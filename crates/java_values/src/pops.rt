@@ -3,16 +3,14 @@ ghost use Rattle.java_syntax.specs.ExpressionTrees.{expr_of};
 ghost use Rattle.java_syntax.specs.AnnotationTrees.{anno_of, anno_value_of};
 ghost use Rattle.java_syntax.specs.StatementTrees.{local_of, stmt_of, block_of, for_start_of};
 ghost use Rattle.java_syntax.specs.DeclarationTrees.{super_call_of, constructor_body_of, member_of, class_of, unit_of};
-ghost use Rattle.java_nested_trees.specs.NestedTrees.{lexeme_in, nested_of, exprs_in, annos_in, arguments_in, anno_values_in, modifiers_in, variables_in, stmts_in, resources_in, catches_in, open_operation_of, identifiers_of, optional_in, parenthesized_of};
+ghost use Rattle.java_values.specs.NestedTrees.{lexeme_in, nested_of, exprs_in, annos_in, arguments_in, anno_values_in, modifiers_in, variables_in, stmts_in, resources_in, catches_in, open_operation_of, identifiers_of, optional_in, parenthesized_of};
 ghost use Rattle.java_values.specs.Values.{values_of, value_of, parameters_of};
 ghost use Rattle.java_values.specs.Values as kinds;
 ghost use Rattle.java_values.specs.Kinds.{IsTop, top_kind};
-ghost use Rattle.java_nested_trees.specs.Outcomes.{Gives, Made};
+ghost use Rattle.java_values.specs.Outcomes.{Gives, Made};
 
 use crate::values::{Parameters, Place, Value};
-use java_nested_trees::{
-    BuildFail, Identifiers, Lexeme, Nested, OpenOperation, Parenthesized, put,
-};
+use crate::{BuildFail, Identifiers, Lexeme, Nested, OpenOperation, Parenthesized, put};
 use java_syntax::{
     Anno, AnnoArgument, AnnoValue, Block, Catch, ClassDecl, ConstructorBody, Expr, ForStart,
     Import, Local, Member, Modifier, Name, Resource, Stmt, SuperCall, Typ, Unit, Variable,
@@ -230,7 +228,7 @@ pub fn pop_annotation_value(stack: &mut Vec<Value>) -> Nested<AnnoValue>
     ensures { values_of stack.old.items ≡ kinds.AAnnotationValue (nested_of anno_value_of result) ∷ values_of stack.new.items }
 {
     match pop_top(stack) {
-        Value::AnnotationValue(found) => found,
+        Value::AnnotationValue(found) => Box::into_inner(found),
         _other => unreachable!(),
     }
 }
@@ -285,7 +283,7 @@ pub fn pop_statement(stack: &mut Vec<Value>) -> Nested<Stmt>
     ensures { values_of stack.old.items ≡ kinds.AStatement (nested_of stmt_of result) ∷ values_of stack.new.items }
 {
     match pop_top(stack) {
-        Value::Statement(found) => found,
+        Value::Statement(found) => Box::into_inner(found),
         _other => unreachable!(),
     }
 }

@@ -1,4 +1,4 @@
-use java_nested_trees::{Identifiers, Lexeme, Nested, OpenOperation, Parenthesized};
+use crate::{Identifiers, Lexeme, Nested, OpenOperation, Parenthesized};
 use java_syntax::{
     Anno, AnnoArgument, AnnoValue, Block, Catch, ClassDecl, ConstructorBody, Expr, ForStart,
     Import, Local, Member, Modifier, Name, Param, Resource, Stmt, SuperCall, Typ, Unit, Variable,
@@ -59,7 +59,7 @@ pub enum Value {
     /// The arguments of an annotation, in their order.
     Arguments(Nested<Vec<AnnoArgument>>),
     /// A value in an annotation.
-    AnnotationValue(Nested<AnnoValue>),
+    AnnotationValue(Box<Nested<AnnoValue>>),
     /// Values in an annotation, in their order.
     AnnotationValues(Nested<Vec<AnnoValue>>),
     /// Annotations and modifier words, in their order.
@@ -69,7 +69,7 @@ pub enum Value {
     /// A declaration of local variables.
     Local(Nested<Local>),
     /// A statement.
-    Statement(Nested<Stmt>),
+    Statement(Box<Nested<Stmt>>),
     /// Statements in their order.
     Statements(Nested<Vec<Stmt>>),
     /// A block.

@@ -8,7 +8,7 @@ use Rattle.std.proofs.lemmas.Bool.Decides.{same_from_decides}
 use Rattle.program_model.specs.declared.tree.Body.{Body}
 use Rattle.control_actions.specs.declared.action.Scope.{Scope}
 use Rattle.control_actions.specs.declared.place.Place.TheVariants as places
-use Rattle.action_effects.specs.Scopes.{drops_variable}
+use Rattle.control_actions.specs.Scopes.{drops_variable}
 use Rattle.obligation_facts.specs.Facts.{PlaceSet, has, without, is_nowhere, without_temps, without_variables, has_field_from, without_fields_from}
 use Rattle.rlc_base.specs.NameSet.{same_within}
 

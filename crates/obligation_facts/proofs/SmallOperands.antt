@@ -8,7 +8,7 @@ use Rattle.control_actions.specs.declared.action.Action.{Action}
 use Rattle.control_actions.specs.declared.action.Action.TheVariants as actions
 use Rattle.control_actions.specs.declared.action.TargetForm.{TargetForm}
 use Rattle.control_actions.specs.declared.action.TargetForm.TheVariants as forms
-use Rattle.action_effects.specs.Calls.{operand_at, temp_at, without_receiver, call_operand, new_operand}
+use Rattle.control_actions.specs.Calls.{operand_at, temp_at, without_receiver, call_operand, new_operand}
 use Rattle.obligation_facts.specs.SmallActions.{IsSmallAction, IsSmallTemp}
 
 chosen : (b : Bool) (x : ℕ) → (b ≡ true → x < 64) → IsSmallTemp (if b then Some x else None)

@@ -10,7 +10,7 @@ use Rattle.control_actions.specs.declared.action.Edge.{Edge}
 use Rattle.control_actions.specs.declared.action.Edge.TheVariants as edges
 use Rattle.control_actions.specs.declared.action.TargetForm.{TargetForm}
 use Rattle.control_actions.specs.declared.action.TargetForm.TheVariants as forms
-use Rattle.action_effects.specs.Calls.{called_method, operand_at, target_form}
+use Rattle.control_actions.specs.Calls.{called_method, operand_at, target_form}
 use Rattle.obligation_facts.specs.Facts.{PlaceSet, has_temp}
 
 abbrev pub callee_in : Program → Option MethodId → Option Method

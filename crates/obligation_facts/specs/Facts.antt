@@ -5,7 +5,7 @@ use Rattle.std.specs.FinSet as set
 use Rattle.program_model.specs.declared.tree.Body.{Body}
 pub use Rattle.program_model.specs.NameSets.{Names}
 use Rattle.control_actions.specs.PlaceNumbers.{number_of}
-use Rattle.action_effects.specs.Scopes.{drops_variable}
+use Rattle.control_actions.specs.Scopes.{drops_variable}
 use Rattle.control_actions.specs.declared.action.Scope.{Scope}
 use Rattle.control_actions.specs.declared.action.Scope.TheVariants as scopes
 use Rattle.control_actions.specs.declared.place.Place.{Place}

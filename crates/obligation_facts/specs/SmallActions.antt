@@ -7,7 +7,7 @@ use Rattle.control_actions.specs.declared.action.Action.{Action}
 use Rattle.control_actions.specs.declared.action.Action.TheVariants as actions
 use Rattle.control_actions.specs.declared.action.Scope.{Scope}
 use Rattle.control_actions.specs.declared.action.Scope.TheVariants as scopes
-use Rattle.action_effects.specs.Calls.{completion_temp}
+use Rattle.control_actions.specs.Calls.{completion_temp}
 
 -- the temp, where there is one, is in range
 abbrev pub IsSmallTemp : Option ℕ → Type 0

@@ -6,8 +6,7 @@ ghost use Rattle.obligation_facts.specs.Callees.{callee, holds_operand, is_other
 ghost use Rattle.obligation_facts.specs.SmallActions.{IsSmallAction};
 
 use crate::facts::has_temp;
-use action_effects::{called_method, operand_at, target_form};
-use control_actions::{Action, Edge, Places, TargetForm};
+use control_actions::{Action, Edge, Places, TargetForm, called_method, operand_at, target_form};
 use program_model::{Method, Program, is_ignored, under};
 
 /// The method or constructor that an action calls. None for an action that calls nothing, and for a number of no method.

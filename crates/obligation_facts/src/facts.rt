@@ -4,8 +4,9 @@ ghost use Rattle.std.specs.Prelude.{◌≡◌, ◌+◌, ◌<◌, ◌≤◌};
 ghost use Rattle.obligation_facts.specs.Facts.{are_position, has_field, has_part, has_temp, is_alias, is_held, is_lent, is_met, is_nowhere, is_origin_at, is_own, is_this_origin, leave, missing, mode_at, need, owes, position_of, without_fields, without_parts, without_scope, without_temps, without_variables};
 ghost use Rattle.obligation_facts.specs.SmallActions.{IsSmallScope, IsSmallTemp};
 
-use action_effects::is_dropped;
-use control_actions::{Fact, Mode, Origin, OriginKind, Outcome, Place, Places, Rule, Scope};
+use control_actions::{
+    Fact, Mode, Origin, OriginKind, Outcome, Place, Places, Rule, Scope, is_dropped,
+};
 use program_model::Body;
 use rlc_base::NameSet;
 

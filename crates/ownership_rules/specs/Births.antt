@@ -33,7 +33,7 @@ use Rattle.control_actions.specs.declared.fact.OriginKind.{OriginKind}
 use Rattle.control_actions.specs.declared.fact.OriginKind.TheVariants as kinds
 use Rattle.control_actions.specs.declared.place.Place.{Place}
 use Rattle.control_actions.specs.declared.place.Place.TheVariants as places
-use Rattle.action_effects.specs.Calls.{is_reset_of_this}
+use Rattle.control_actions.specs.Calls.{is_reset_of_this}
 use Rattle.control_actions.specs.Owned.{place_of_field}
 use Rattle.must_call_sets.specs.MustCallSets.{Names, no_names, must_of, is_heavy_class}
 use Rattle.must_call_sets.specs.Signatures.{field_type, is_position, is_present}

@@ -12,8 +12,9 @@ ghost use Rattle.ownership_rules.specs.Room.{HasRoom};
 use crate::field_births::pick_field;
 use crate::origins::{born, fact_at};
 use crate::picks::{Pick, found, pick_one};
-use action_effects::is_reset_of_this;
-use control_actions::{Action, Edge, Fact, Mode, Origin, OriginKind, Place, PlainValue};
+use control_actions::{
+    Action, Edge, Fact, Mode, Origin, OriginKind, Place, PlainValue, is_reset_of_this,
+};
 use must_call_sets::{field_type, is_heavy_class};
 use program_model::{BodyId, MethodId, Program, VType};
 use rlc_base::{NameSet, Pos};

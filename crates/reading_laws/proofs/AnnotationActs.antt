@@ -10,7 +10,7 @@ use Rattle.java_syntax.specs.declared.actions.AnnotationAction.TheVariants as an
 use Rattle.java_syntax.specs.Derives.{Lexeme}
 use Rattle.java_syntax.specs.AnnotationTrees as tree
 use Rattle.java_syntax.specs.AnnotationTrees.{AnnoTree}
-use Rattle.java_statement_nodes.specs.Parts.{place_of_annotation}
+use Rattle.java_nodes.specs.StatementParts.{place_of_annotation}
 use Rattle.java_expression_actions.specs.AnnotationActions.{perform_annotation}
 use Rattle.reading_laws.specs.Names as names
 use Rattle.reading_laws.specs.Names.{Is, BeginAt}

@@ -12,11 +12,11 @@ use Rattle.java_syntax.specs.ExpressionTrees.{ExprTree}
 use Rattle.java_syntax.specs.AnnotationTrees.{AnnoTree, ArgumentTree, AnnoValueTree, ModifierTree}
 use Rattle.java_syntax.specs.StatementTrees.{VariableTree, LocalTree, ResourceTree, ForStartTree, StmtTree, BlockTree, CatchTree}
 use Rattle.java_syntax.specs.DeclarationTrees.{SuperCallTree, ConstructorBodyTree, MemberTree, ClassTree, UnitTree}
-use Rattle.java_nested_trees.specs.NestedTrees.{Nested, IdentifiersTree, OpenOperationTree, ParenthesizedTree, NamesInside, ArrayInside, ExpressionInside}
+use Rattle.java_values.specs.NestedTrees.{Nested, IdentifiersTree, OpenOperationTree, ParenthesizedTree, NamesInside, ArrayInside, ExpressionInside}
 use Rattle.java_values.specs.Values.{ParametersTree, ValueTree, APlace, AToken, AName, AOptionalName, AIdentifiers, ANames, AType, AOptionalType, AExpression, AOptionalExpression, AExpressions, ACall, AOperations, AParenthesized, AAnnotation, AAnnotations, AArguments, AAnnotationValue, AAnnotationValues, AModifiers, AVariables, ALocal, AStatement, AStatements, ABlock, AForStart, AResources, ACatches, AParameters, ASuperCall, AConstructorBody, AMembers, ATypes, AImports, AUnit, AUnits}
-use Rattle.java_expression_nodes.specs.Operators.{infix_operator}
-use Rattle.java_expression_nodes.specs.Parts.{level_of, comparison, loosest}
-use Rattle.java_statement_nodes.specs.Parts.{package_name}
+use Rattle.java_nodes.specs.Operators.{infix_operator}
+use Rattle.java_nodes.specs.Parts.{level_of, comparison, loosest}
+use Rattle.java_nodes.specs.StatementParts.{package_name}
 use Rattle.reading_laws.specs.Names.{Is, BeginAt, IsName, IsPrimitiveType, IsElementType, IsReferenceType, IsType, identifier_at, AreInOrder, AreSeparated}
 use Rattle.reading_laws.specs.Expressions.{IsOperand, IsExpression, HasLooseOperator, no_array_level, primary_level, postfix_level, unsigned_level, unary_level, infix_level, right_level, conditional_level, assignment_level, AreExpressions, AreArguments, is_infix}
 use Rattle.reading_laws.specs.Annotations.{IsAnnotation, AreAnnotationArguments, ArePairs, IsAnnotationValue, AreValues, AreInBraces, AreModifiers}

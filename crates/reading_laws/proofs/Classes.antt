@@ -9,12 +9,12 @@ use Rattle.java_syntax.specs.declared.tokens.Token.{Token}
 use Rattle.java_syntax.specs.Derives.{Lexeme, lexeme_of, text_of}
 use Rattle.java_lexer.specs.declared.token.TokenKind.{TokenKind}
 use Rattle.java_lexer.specs.declared.token.TokenKind.TheVariants as kind
-use Rattle.java_words.specs.Words.{class_in, reserved_word_classes, separator_classes, operator_classes}
-use Rattle.java_lexer.specs.Words.{class_of}
+use Rattle.java_lexer.specs.Words.{class_in, reserved_word_classes, separator_classes, operator_classes}
+use Rattle.java_lexer.specs.TokenClasses.{class_of}
 use Rattle.java_lexer.specs.Cut.{IsTokenOf}
 use Rattle.java_lexer.proofs.ListedLaws.{same_bytes}
-use Rattle.java_expression_nodes.specs.Operators.{infix_operator}
-use Rattle.java_expression_nodes.specs.Parts.{level_of, comparison}
+use Rattle.java_nodes.specs.Operators.{infix_operator}
+use Rattle.java_nodes.specs.Parts.{level_of, comparison}
 use Rattle.reading_laws.specs.Expressions.{is_loose, HasLooseOperator}
 
 -- a row of a loose class is that of a loose operator

@@ -9,7 +9,7 @@ use Rattle.java_syntax.specs.declared.actions.ExpressionAction.{ExpressionAction
 use Rattle.java_syntax.specs.declared.actions.ExpressionAction.TheVariants as computes
 use Rattle.java_syntax.specs.Derives.{Lexeme}
 use Rattle.java_syntax.specs.ExpressionTrees as tree
-use Rattle.java_expression_nodes.specs.Parts.{name_expression, named_call, loosest, comparison, closed}
+use Rattle.java_nodes.specs.Parts.{name_expression, named_call, loosest, comparison, closed}
 use Rattle.java_expression_actions.specs.ExpressionActions.{perform_expression}
 use Rattle.reading_laws.specs.Names as names
 use Rattle.reading_laws.specs.Expressions as expressions

@@ -7,11 +7,11 @@ use Rattle.java_syntax.specs.Derives.{Lexeme}
 use Rattle.java_syntax.specs.declared.operators.InfixOperator.{InfixOperator}
 use Rattle.java_syntax.specs.declared.operators.InfixOperator.TheVariants as operator
 use Rattle.java_syntax.specs.ExpressionTrees.{ExprTree, Infix, MethodCall, expressions as trees}
-use Rattle.java_nested_trees.specs.NestedTrees.{Nested, IdentifiersTree, OpenOperationTree}
-use Rattle.java_nested_trees.specs.Outcomes.{Outcome, Made, TooDeep, Misfit, ◌>>=◌}
-use Rattle.java_expression_nodes.specs.Nodes.{field_access_node, identifier_node, method_call_node, infix_node}
-use Rattle.java_expression_nodes.specs.Operators.{infix_operator}
-use Rattle.java_expression_nodes.specs.Parts.{dots, type_of, fields_of, name_expression, called, named_call, level_of, loosest, ClosedTree, closed}
+use Rattle.java_values.specs.NestedTrees.{Nested, IdentifiersTree, OpenOperationTree}
+use Rattle.java_values.specs.Outcomes.{Outcome, Made, TooDeep, Misfit, ◌>>=◌}
+use Rattle.java_nodes.specs.Nodes.{field_access_node, identifier_node, method_call_node, infix_node}
+use Rattle.java_nodes.specs.Operators.{infix_operator}
+use Rattle.java_nodes.specs.Parts.{dots, type_of, fields_of, name_expression, called, named_call, level_of, loosest, ClosedTree, closed}
 use Rattle.reading_laws.specs.Names.{IsName, IsElementType, identifier_at, simple, qualified, named}
 use Rattle.reading_laws.specs.Expressions.{IsOperand, looser, no_array_level, unary_level, infix_level, AreArguments, identifier, call, method_call, field_access, infix'}
 use Rattle.reading_laws.proofs.Cells.{AreIdentifiers, first_identifier, next_identifier, IsAbove, Suits, AreOperations, no_operation, further_operation}

@@ -11,10 +11,10 @@ use Rattle.java_syntax.specs.declared.names.Typ.{Typ}
 use Rattle.java_syntax.specs.ExpressionTrees.{ExprTree}
 use Rattle.java_syntax.specs.AnnotationTrees.{AnnoTree}
 use Rattle.java_syntax.specs.DeclarationTrees.{UnitTree}
-use Rattle.java_nested_trees.specs.NestedTrees.{Nested}
+use Rattle.java_values.specs.NestedTrees.{Nested}
 use Rattle.java_values.specs.Values.{ValueTree, AUnit, AUnits, AExpression, AType, AAnnotations}
-use Rattle.java_nested_trees.specs.Outcomes.{Made}
-use Rattle.java_nested_trees.specs.Lists.{none_of}
+use Rattle.java_values.specs.Outcomes.{Made}
+use Rattle.java_values.specs.Lists.{none_of}
 use Rattle.java_exprs.specs.Evaluation.{evaluate}
 use Rattle.reading_laws.specs.Names.{IsType, nothing}
 use Rattle.reading_laws.specs.Expressions.{IsExpression, HasLooseOperator}

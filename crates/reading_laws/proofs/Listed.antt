@@ -8,8 +8,8 @@ use Rattle.java_syntax.specs.declared.tokens.Token.{Token}
 use Rattle.java_syntax.specs.Derives.{text_of}
 use Rattle.java_lexer.specs.declared.token.TokenKind.{TokenKind}
 use Rattle.java_lexer.specs.declared.token.TokenKind.TheVariants as kind
-use Rattle.java_words.specs.Words.{is_listed, class_in, reserved_word_classes, separator_classes, operator_classes}
-use Rattle.java_lexer.specs.Words.{class_of}
+use Rattle.java_lexer.specs.Words.{is_listed, class_in, reserved_word_classes, separator_classes, operator_classes}
+use Rattle.java_lexer.specs.TokenClasses.{class_of}
 use Rattle.java_lexer.specs.Cut.{IsTokenOf}
 use Rattle.java_lexer.proofs.ListedLaws.{same_bytes}
 use Rattle.reading_laws.specs.Expressions.{is_infix}

@@ -12,7 +12,7 @@ use Rattle.java_syntax.specs.Derives.{Lexeme, Step, first_word}
 use Rattle.java_grammar.specs.Refusal.{IsDerivation, IsWrongAt}
 use Rattle.java_grammar.proofs.Runs.{the_only}
 use Rattle.java_values.specs.Values.{ValueTree, AUnit, AUnits}
-use Rattle.java_nested_trees.specs.Outcomes.{Outcome, Made, TooDeep}
+use Rattle.java_values.specs.Outcomes.{Outcome, Made, TooDeep}
 use Rattle.java_exprs.specs.Evaluation.{evaluate}
 use Rattle.program_front.specs.FileTrees.{IsFileStop, IsFileValues, IsStubTree, IsUnitTree}
 

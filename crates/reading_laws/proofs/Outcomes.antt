@@ -1,8 +1,8 @@
 -- What holds of what an action makes, where it makes something.
 use Rattle.std.specs.Prelude.{◌≡◌, ℕ, ◌+◌, nat_lt, Bool, true, false, if◌then◌else◌}
 use Rattle.std.proofs.Common.{subst, arith}
-use Rattle.java_nested_trees.specs.NestedTrees.{Nested}
-use Rattle.java_nested_trees.specs.Outcomes.{Outcome, Made, TooDeep, Misfit, ◌>>=◌, deeper, node}
+use Rattle.java_values.specs.NestedTrees.{Nested}
+use Rattle.java_values.specs.Outcomes.{Outcome, Made, TooDeep, Misfit, ◌>>=◌, deeper, node}
 
 pub data IfMade (A : Type 0) (P : A → Type 0) : Outcome A → Type 0 where
   made : (a : A) → P a → IfMade A P (Made a)

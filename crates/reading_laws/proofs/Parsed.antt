@@ -11,7 +11,7 @@ use Rattle.java_lexer.specs.Cut.{IsTokenOf}
 use Rattle.java_syntax.specs.ExpressionTrees.{ExprTree}
 use Rattle.java_syntax.specs.AnnotationTrees.{AnnoTree}
 use Rattle.java_syntax.specs.DeclarationTrees.{UnitTree}
-use Rattle.java_nested_trees.specs.Outcomes.{Made}
+use Rattle.java_values.specs.Outcomes.{Made}
 use Rattle.java_grammar.specs.Fronts.{IsClosedFront}
 use Rattle.java_exprs.specs.FrontTrees.{IsExpressionFront, IsTypeFront, IsAnnotationsFront}
 use Rattle.program_front.specs.FileTrees.{IsUnitTree, IsStubTree}

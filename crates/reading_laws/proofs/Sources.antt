@@ -4,7 +4,7 @@ use Rattle.std.proofs.Common.{arith, sym, ◌∙◌, ap, append_assoc}
 use Rattle.java_syntax.specs.declared.words.Word.{Word}
 use Rattle.java_syntax.specs.declared.words.Word.TheVariants as word
 use Rattle.reading_laws.specs.Names as names
-use Rattle.java_expression_nodes.specs.Parts.{comparison}
+use Rattle.java_nodes.specs.Parts.{comparison}
 use Rattle.reading_laws.specs.Expressions as expressions
 use Rattle.reading_laws.specs.Expressions.{looser, unary_level, infix_level}
 use Rattle.reading_laws.specs.Annotations as annotations

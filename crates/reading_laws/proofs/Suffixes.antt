@@ -4,8 +4,8 @@ use Rattle.std.proofs.Common.{sym, ◌∙◌, subst, append_assoc}
 use Rattle.std.specs.List.{AllByRecursion}
 use Rattle.java_syntax.specs.Derives.{Lexeme}
 use Rattle.java_values.specs.Values.{ValueTree}
-use Rattle.java_expression_nodes.specs.Operators.{infix_operator}
-use Rattle.java_expression_nodes.specs.Parts.{level_of, comparison}
+use Rattle.java_nodes.specs.Operators.{infix_operator}
+use Rattle.java_nodes.specs.Parts.{level_of, comparison}
 use Rattle.reading_laws.specs.Expressions.{is_loose, HasLooseOperator}
 use Rattle.reading_laws.proofs.Cells.{Cell, File, Holds, empty, a_word, a_start, a_kept, a_value, a_pending, a_compared, a_try, a_statement, a_no_else}
 

@@ -11,8 +11,8 @@ use Rattle.java_syntax.specs.Derives.{Lexeme}
 use Rattle.java_syntax.specs.StatementTrees as tree
 use Rattle.java_syntax.specs.StatementTrees.{StmtTree, BlockTree}
 use Rattle.java_values.specs.Values.{ValueTree, APlace, AExpression, AOperations}
-use Rattle.java_expression_nodes.specs.Operators.{infix_operator}
-use Rattle.java_expression_nodes.specs.Parts.{level_of, comparison, closed, ClosedTree}
+use Rattle.java_nodes.specs.Operators.{infix_operator}
+use Rattle.java_nodes.specs.Parts.{level_of, comparison, closed, ClosedTree}
 use Rattle.java_expression_actions.specs.TokenActions.{perform_token}
 use Rattle.reading_laws.specs.Names as names
 use Rattle.reading_laws.specs.Names.{Is, BeginAt}

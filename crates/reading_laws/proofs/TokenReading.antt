@@ -12,7 +12,7 @@ use Rattle.java_syntax.specs.declared.productions.StatementProduction.TheVariant
 use Rattle.java_syntax.specs.Table.{body_of, head_of}
 use Rattle.java_syntax.specs.Derives.{Surroundings, Lexeme, Step, Derives, ended, took, used, did, allowed, leaves_no_else, first_word}
 use Rattle.java_values.specs.Values.{ValueTree}
-use Rattle.java_nested_trees.specs.Outcomes.{Outcome}
+use Rattle.java_values.specs.Outcomes.{Outcome}
 use Rattle.java_exprs.specs.Evaluation.{perform, evaluate}
 use Rattle.reading_laws.proofs.Cells.{Cell, File, Holds, a_word, a_no_else}
 use Rattle.reading_laws.proofs.Outcomes.{IfMade, made, then_made}

@@ -7,8 +7,8 @@ use Rattle.java_syntax.specs.declared.names.Typ.{Typ}
 use Rattle.java_syntax.specs.Derives.{Lexeme}
 use Rattle.java_syntax.specs.ExpressionTrees as tree
 use Rattle.java_syntax.specs.ExpressionTrees.{ExprTree, expressions}
-use Rattle.java_expression_nodes.specs.Operators.{infix_operator, prefix_operator, step_operator, compound_operator}
-use Rattle.java_expression_nodes.specs.Parts.{level_of, comparison, loosest}
+use Rattle.java_nodes.specs.Operators.{infix_operator, prefix_operator, step_operator, compound_operator}
+use Rattle.java_nodes.specs.Parts.{level_of, comparison, loosest}
 use Rattle.reading_laws.specs.Names.{Is, IsName, IsPrimitiveType, IsElementType, IsReferenceType, IsType}
 
 -- the classes of the operators between two operands (JLS 15.17 to 15.24), but `instanceof`

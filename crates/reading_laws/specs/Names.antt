@@ -7,7 +7,7 @@ use Rattle.java_syntax.specs.declared.names.Name.{Name}
 use Rattle.java_syntax.specs.declared.names.Typ.{Typ}
 use Rattle.java_syntax.specs.declared.names.TypeName.TheVariants.{Primitive, Named}
 use Rattle.java_syntax.specs.Derives.{Lexeme}
-use Rattle.java_expression_nodes.specs.Operators.{primitive_name}
+use Rattle.java_nodes.specs.Operators.{primitive_name}
 
 -- the token is of this class
 abbrev pub Is : Word → Lexeme → Type 0

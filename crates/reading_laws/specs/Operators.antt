@@ -2,9 +2,9 @@
 use Rattle.std.specs.Prelude.{ℕ, Bool, true, false, List, map, filter}
 use Rattle.java_syntax.specs.declared.words.Word.{Word}
 use Rattle.java_syntax.specs.declared.words.Word.TheVariants as word
-use Rattle.java_words.specs.declared.meanings.Meaning.{Meaning}
-use Rattle.java_words.specs.declared.meanings.Meaning.TheVariants as meaning
-use Rattle.java_words.specs.Words.{operator_meanings}
+use Rattle.java_lexer.specs.declared.meanings.Meaning.{Meaning}
+use Rattle.java_lexer.specs.declared.meanings.Meaning.TheVariants as meaning
+use Rattle.java_lexer.specs.Words.{operator_meanings}
 
 -- the text may stand between two operands
 abbrev pub is_infix_meaning : Meaning → Bool

@@ -2,7 +2,7 @@ ghost use Rattle.std.specs.Prelude.{◌≡◌, ◌-◌, ℕ, true, All, List, le
 ghost use Rattle.java_syntax.specs.declared.names.Typ.{Typ as TypTree};
 ghost use Rattle.java_syntax.specs.Derives.{lexeme_of, text_of};
 ghost use Rattle.java_syntax.specs.declared.words.Word.TheVariants as words;
-ghost use Rattle.java_words.specs.Words.{is_listed};
+ghost use Rattle.java_lexer.specs.Words.{is_listed};
 ghost use Rattle.java_lexer.specs.Cut.{IsTokenOf};
 ghost use Rattle.java_syntax.specs.ExpressionTrees.{ExprTree};
 ghost use Rattle.java_syntax.specs.AnnotationTrees.{AnnoTree};

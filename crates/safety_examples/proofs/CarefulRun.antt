@@ -1,7 +1,7 @@
 -- The program that closes its socket: a run in which `close` throws.
 use Rattle.std.proofs.Common.{◌≡◌, Some, List, [], ◌∷◌, refl, ap, ◌∙◌}
 use Rattle.java_control.specs.Control.{next_of, start_of}
-use Rattle.action_effects.specs.Exceptions.{some_heeded}
+use Rattle.control_actions.specs.Exceptions.{some_heeded}
 use Rattle.java_control.specs.Remaining.{Ev, Out}
 use Rattle.stub_conduct.specs.declared.choice.Choice.{Choice}
 use Rattle.ledger_state.specs.declared.entry.Owner.TheVariants as owners

@@ -2,7 +2,7 @@
 use Rattle.std.proofs.Common.{◌≡◌, true, None, [], ◌∷◌, refl, sym, ap, ◌∙◌, true≢false}
 use Rattle.std.specs.List.{list_any}
 use Rattle.java_control.specs.Control.{next_of, start_of}
-use Rattle.action_effects.specs.Exceptions.{some_heeded}
+use Rattle.control_actions.specs.Exceptions.{some_heeded}
 use Rattle.ledger_state.specs.declared.entry.Owner.TheVariants as owners
 use Rattle.ledger_state.specs.declared.value.Value.TheVariants as values
 use Rattle.soundness_laws.specs.Configuration.{Config}

@@ -2,7 +2,7 @@
 use Rattle.std.proofs.Common.{◌≡◌, true, None, List, [], ◌∷◌, refl, sym, ap, ◌∙◌, true≢false}
 use Rattle.std.specs.List.{list_any}
 use Rattle.java_control.specs.Control.{next_of, start_of}
-use Rattle.action_effects.specs.Exceptions.{some_heeded}
+use Rattle.control_actions.specs.Exceptions.{some_heeded}
 use Rattle.java_control.specs.Remaining.{Todo, Ev}
 use Rattle.ledger_state.specs.Leaks.{is_leak}
 use Rattle.ledger_state.specs.declared.entry.Owner.TheVariants as owners

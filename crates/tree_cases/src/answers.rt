@@ -6,14 +6,13 @@ ghost use Rattle.std.specs.Prelude.{◌<◌, ◌-◌, ◌^◌, length};
 use crate::classes::class_word;
 use crate::texts::{Kind, Texts};
 use crate::trees::{
-    Printer, write_annotation, write_expression, write_member, write_statement, write_type,
-    write_unit,
+    Printer, write_annotation, write_expression, write_member, write_statement, write_unit,
 };
 use case_files::FormFail;
 use java_exprs::{parse_annos, parse_expr, parse_type};
 use java_lexer::{Source, lex};
 use java_parser::{parse_stub, parse_unit};
-use java_syntax::{Member, Stmt, Token, Unit};
+use java_syntax::{Member, MethodDecl, Token, Unit};
 use rlc_base::Stop;
 use std::alloc::{AllocError, Global};
 
@@ -66,7 +65,7 @@ fn write_front_type(alloc: Global, out: &mut Printer, source: &Source) -> Result
     requires { length source.now.bytes.now < 2 ^ 32 - 1 }
 {
     let (typ, behind) = parse_type(alloc, source, 0)?;
-    write_type(out, &typ);
+    out.typ(&typ);
     write_read(out, behind, source.tokens.len());
     Ok(())
 }
@@ -87,29 +86,30 @@ fn write_front_annotations(
     Ok(())
 }
 
-// The statements of the one method of the one class of a file.
-fn only_statements(unit: &Unit) -> Option<&[Stmt]> {
-    let [class] = unit.types.as_slice() else {
-        return None;
-    };
-    let [Member::Method(method)] = class.members.as_slice() else {
-        return None;
-    };
-    match &method.body {
-        None => None,
-        Some(body) => Some(body.statements.as_slice()),
-    }
-}
-
-// The statements of the one method of a file.
-fn write_statements(out: &mut Printer, unit: &Unit) {
-    match only_statements(unit) {
-        None => out.bare("not one method"),
-        Some(statements) => {
-            for statement in statements {
+// The statements of the one method among the members.
+fn write_body(out: &mut Printer, members: &[Member]) {
+    match members {
+        [
+            Member::Method(
+                MethodDecl {
+                    body: Some(body),
+                    ..
+                },
+            ),
+        ] => {
+            for statement in &body.statements {
                 write_statement(out, statement);
             }
         }
+        _ => out.bare("not one method"),
+    }
+}
+
+// The statements of the one method of the one class of a file.
+fn write_statements(out: &mut Printer, unit: &Unit) {
+    match unit.types.as_slice() {
+        [class] => write_body(out, &class.members),
+        _ => out.bare("not one method"),
     }
 }
 
@@ -174,28 +174,36 @@ fn write_answer(alloc: Global, out: &mut Printer, texts: &Texts, bytes: &[u8]) -
     }
 }
 
-// The file that a text stands in.
-fn file_of(alloc: Global, texts: &Texts, text: &[u8]) -> Result<Vec<u8>, AllocError> {
-    let mut bytes = Vec::from_slice(alloc, texts.front.as_bytes())?;
-    bytes.extend_from_slice(text)?;
-    bytes.extend_from_slice(texts.back.as_bytes())?;
-    Ok(bytes)
+// Puts the file that a text stands in.
+fn put_file(texts: &Texts, text: &[u8], file: &mut Vec<u8>) -> Result<(), AllocError> {
+    file.extend_from_slice(texts.front.as_bytes())?;
+    if !texts.front.is_empty() {
+        file.extend_from_slice(b"\n")?;
+    }
+    file.extend_from_slice(text)?;
+    file.extend_from_slice(texts.back.as_bytes())
+}
+
+// The answer to a file, in words.
+fn answer_to(alloc: Global, texts: &Texts, bytes: &[u8]) -> Option<String>
+    requires { length bytes.now < 2 ^ 32 - 1 }
+{
+    let mut out = Printer::new(alloc, texts.with_places);
+    match write_answer(alloc, &mut out, texts, bytes) {
+        Ok(()) => {}
+        Err(Stop::Refused(refusal)) => out.refusal(refusal),
+        Err(Stop::TooMuch(refusal)) => out.number(refusal.code.number() as usize),
+        Err(Stop::NoMemory) => out.fall_short(),
+    }
+    out.into_text()
 }
 
 /// The answer to a text, in words.
 pub fn answer(alloc: Global, texts: &Texts, text: &[u8]) -> Result<String, FormFail> {
-    let bytes = file_of(alloc, texts, text)?;
+    let mut bytes = Vec::new(alloc);
+    put_file(texts, text, &mut bytes)?;
     if MOST <= bytes.len() {
         return Err(FormFail::Section);
     }
-    let mut out = Printer::new(alloc, texts.with_places);
-    match write_answer(alloc, &mut out, texts, &bytes) {
-        Ok(()) => out.into_text().ok_or(FormFail::NoMemory),
-        Err(Stop::Refused(refusal)) => {
-            let (number, pos) = (refusal.code.number(), refusal.pos);
-            Ok(format!(in alloc; "{number} {}:{}", pos.line, pos.col)?)
-        }
-        Err(Stop::TooMuch(refusal)) => Ok(format!(in alloc; "{}", refusal.code.number())?),
-        Err(Stop::NoMemory) => Err(FormFail::NoMemory),
-    }
+    answer_to(alloc, texts, &bytes).ok_or(FormFail::NoMemory)
 }

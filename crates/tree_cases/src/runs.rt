@@ -1,9 +1,9 @@
 //! The rows of a file, run one after the other.
 
 use crate::answers::answer;
-use crate::rows::{Row, rows_of};
+use crate::rows::{Row, first_row};
 use crate::texts::{Texts, texts_of};
-use case_files::{Case, Count, Cut, Section, read_cases, same_text};
+use case_files::{Case, Count, Cut, FormFail, Section, read_cases, same_text};
 use outside::Files;
 use std::alloc::Global;
 
@@ -15,8 +15,8 @@ fn run_row(
     section: &Section,
     row: &Row,
 ) -> Result<bool, Cut> {
-    let text = section.content(alloc, &row.text)?;
-    let wanted = section.content(alloc, &row.wanted)?;
+    let text = section.content(alloc, row.text)?;
+    let wanted = section.content(alloc, row.wanted)?;
     let given = answer(alloc, texts, &text)?;
     if same_text(given.as_bytes(), &wanted) {
         return Ok(true);
@@ -32,9 +32,19 @@ fn run_section(
     section: &Section,
     count: &mut Count,
 ) -> Result<(), Cut> {
-    let texts = texts_of(alloc, &section.head)?;
-    for row in &rows_of(alloc, &section.body)? {
-        count.add(run_row(rt, alloc, &texts, section, row)?);
+    let Some(texts) = texts_of(&section.head) else {
+        return Err(Cut::Form(FormFail::Section));
+    };
+    let mut rows = section.body.as_str();
+    for _ in 0..section.body.len() {
+        if rows.is_empty() {
+            break;
+        }
+        let Some(row) = first_row(rows) else {
+            return Err(Cut::Form(FormFail::Section));
+        };
+        count.add(run_row(rt, alloc, &texts, section, &row)?);
+        rows = row.rest;
     }
     Ok(())
 }

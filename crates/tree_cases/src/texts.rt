@@ -1,8 +1,5 @@
 // What the texts of a section are, as its head says.
 
-use case_files::FormFail;
-use std::alloc::Global;
-
 /// What a text is read as.
 #[derive(Clone, Copy)]
 pub enum Kind {
@@ -24,14 +21,14 @@ pub enum Kind {
 }
 
 /// The texts of a section.
-#[derive(Drop)]
-pub struct Texts {
+#[derive(Clone, Copy)]
+pub struct Texts<'a> {
     pub kind: Kind,
     /// The level at which an expression or annotations stand.
     pub level: u32,
     pub with_places: bool,
-    /// What stands in the file in front of a text and behind it.
-    pub front: String,
+    /// The line that stands in the file in front of a text, if there is one, and what stands behind it.
+    pub front: &'a str,
     pub back: &'static str,
 }
 
@@ -42,6 +39,7 @@ fn kind_of(word: &str) -> Option<Kind> {
         "expressions" => Some(Kind::Expression),
         "types" => Some(Kind::Type),
         "annotations" => Some(Kind::Annotations),
+        "statements" => Some(Kind::Statements),
         "files" => Some(Kind::File),
         "stub files" => Some(Kind::StubFile),
         "files taken" => Some(Kind::FileTaken),
@@ -49,36 +47,39 @@ fn kind_of(word: &str) -> Option<Kind> {
     }
 }
 
+// What stands around a text: a line in front of it, and what stands behind it.
+fn surroundings(kind: Kind, declared: &str) -> (&str, &'static str) {
+    match kind {
+        Kind::Members => (declared, "\n}"),
+        Kind::Statements => ("class A { void f() {", "\n} }"),
+        _ => ("", ""),
+    }
+}
+
 // A head without ` at level N` at its end, and N.
-fn levelled(head: &str) -> Result<(&str, u32), FormFail> {
+fn levelled(head: &str) -> Option<(&str, u32)> {
     match head.split_once(" at level ") {
-        None => Ok((head, 0)),
+        None => Some((head, 0)),
         Some((front, number)) => match number.parse::<u32>() {
-            Ok(level) => Ok((front, level)),
-            Err(_) => Err(FormFail::Section),
+            Ok(level) => Some((front, level)),
+            Err(_) => None,
         },
     }
 }
 
-/// The texts of a section with this head.
-pub fn texts_of(alloc: Global, head: &str) -> Result<Texts, FormFail> {
+/// The texts of a section with this head, if it is one.
+pub fn texts_of(head: &str) -> Option<Texts<'_>> {
     let (head, with_places) = match head.strip_suffix(" with places") {
         None => (head, false),
         Some(front) => (front, true),
     };
     let (head, level) = levelled(head)?;
-    let mut front = String::new(alloc);
-    let (kind, back) = if let Some(declared) = head.strip_prefix("members of ") {
-        front.push_str(declared)?;
-        front.push_str("\n")?;
-        (Kind::Members, "\n}")
-    } else if head == "statements" {
-        front.push_str("class A { void f() {\n")?;
-        (Kind::Statements, "\n} }")
-    } else {
-        (kind_of(head).ok_or(FormFail::Section)?, "")
+    let (kind, declared) = match head.strip_prefix("members of ") {
+        None => (kind_of(head)?, ""),
+        Some(declared) => (Kind::Members, declared),
     };
-    Ok(Texts {
+    let (front, back) = surroundings(kind, declared);
+    Some(Texts {
         kind,
         level,
         with_places,

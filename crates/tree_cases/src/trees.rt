@@ -2,11 +2,11 @@
 // places, `@LINE:COLUMN` stands behind each word whose part of the tree has a place.
 
 use java_syntax::{
-    Anno, AnnoValue, Block, Catch, ClassDecl, ConstructorDecl, Expr, FieldDecl, ForStart, Import,
+    Anno, AnnoValue, Block, Catch, ClassDecl, ConstructorDecl, Expr, ForStart, Import,
     InfixOperator, Local, Member, MethodDecl, Modifier, Name, Param, PrefixOperator, PrimitiveName,
     Resource, StepOperator, Stmt, Typ, TypeName, Unit, Variable,
 };
-use rlc_base::{Pos, Text};
+use rlc_base::{Pos, Refusal, Text};
 use std::alloc::Global;
 
 // What was written so far.
@@ -103,6 +103,19 @@ impl Printer {
         self.digits(number);
     }
 
+    // The code of a refusal, and its place.
+    pub fn refusal(&mut self, refusal: Refusal) {
+        self.number(refusal.code.number() as usize);
+        self.number(refusal.pos.line as usize);
+        self.push(":");
+        self.digits(refusal.pos.col as usize);
+    }
+
+    // Nothing more is written.
+    pub fn fall_short(&mut self) {
+        self.is_short = true;
+    }
+
     // The begin of a node whose word has two pieces.
     fn open_joined(&mut self, front: &str, rest: &str, pos: Pos) {
         self.open_bare(front);
@@ -148,7 +161,7 @@ impl Printer {
         self.close();
     }
 
-    fn typ(&mut self, typ: &Typ) {
+    pub fn typ(&mut self, typ: &Typ) {
         let brackets = if typ.is_array { "[]" } else { "" };
         self.joined(type_word(&typ.name), brackets, typ.pos);
     }
@@ -158,19 +171,13 @@ fn shown(text: &Text) -> &str {
     str::from_utf8(text.bytes()).unwrap_or("?")
 }
 
-fn primitive_word(name: PrimitiveName) -> &'static str {
-    match name {
-        PrimitiveName::Boolean => "boolean",
-        PrimitiveName::Byte => "byte",
-        PrimitiveName::Char => "char",
-        PrimitiveName::Int => "int",
-        PrimitiveName::Long => "long",
-    }
-}
-
 fn type_word(name: &TypeName) -> &str {
     match name {
-        TypeName::Primitive(primitive) => primitive_word(*primitive),
+        TypeName::Primitive(PrimitiveName::Boolean) => "boolean",
+        TypeName::Primitive(PrimitiveName::Byte) => "byte",
+        TypeName::Primitive(PrimitiveName::Char) => "char",
+        TypeName::Primitive(PrimitiveName::Int) => "int",
+        TypeName::Primitive(PrimitiveName::Long) => "long",
         TypeName::Named(text) => shown(text),
     }
 }
@@ -265,16 +272,10 @@ fn write_operator(out: &mut Printer, expr: &Expr) {
     }
 }
 
-fn is_leaf(expr: &Expr) -> bool {
-    matches!(
-        expr,
-        Expr::Literal { .. } | Expr::Identifier { .. } | Expr::This { .. }
-    )
-}
-
 pub fn write_expression(out: &mut Printer, expr: &Expr) {
     write_head(out, expr);
     match expr {
+        Expr::Literal { .. } | Expr::Identifier { .. } | Expr::This { .. } => return,
         Expr::FieldAccess { target: one, .. }
         | Expr::MethodCall { target: one, .. }
         | Expr::NewArray { length: one, .. }
@@ -310,9 +311,7 @@ pub fn write_expression(out: &mut Printer, expr: &Expr) {
             write_expression(out, argument);
         }
     }
-    if !is_leaf(expr) {
-        out.close();
-    }
+    out.close();
 }
 
 fn write_each(out: &mut Printer, expressions: &[Expr]) {
@@ -417,14 +416,6 @@ fn write_resources(out: &mut Printer, resources: &[Resource]) {
     }
 }
 
-// The begin of the node of a catch clause, up to its block.
-fn open_catch(out: &mut Printer, catch: &Catch) {
-    out.open_bare("catch");
-    write_modifiers(out, &catch.modifiers);
-    out.names("classes", &catch.classes);
-    out.name(&catch.name);
-}
-
 fn write_optional(out: &mut Printer, expression: &Option<Expr>) {
     match expression {
         None => out.bare("_"),
@@ -487,27 +478,32 @@ fn open_with(out: &mut Printer, word: &str, pos: Pos, expression: &Expr) {
     write_expression(out, expression);
 }
 
-// The end of the node of a statement, if it is one.
-fn close_statement(out: &mut Printer, statement: &Stmt) {
-    match statement {
-        Stmt::Block(_)
-        | Stmt::Empty { .. }
-        | Stmt::Break { .. }
-        | Stmt::Continue { .. }
-        | Stmt::Return { value: None, .. } => {}
-        _ => out.close(),
-    }
-}
-
 #[cycle(statements)]
 pub fn write_statement(out: &mut Printer, statement: &Stmt) {
     write_statement_head(out, statement);
     match statement {
-        Stmt::Block(block) => write_block(out, block),
-        Stmt::If { then: body, .. }
-        | Stmt::While { body, .. }
-        | Stmt::Do { body, .. }
-        | Stmt::For { body, .. } => write_statement(out, body),
+        Stmt::Empty { .. } | Stmt::Break { .. } | Stmt::Continue { .. } => return,
+        Stmt::Return { value: None, .. } => return,
+        Stmt::Block(block) => return write_block(out, block),
+        Stmt::If {
+            then,
+            otherwise,
+            ..
+        } => {
+            write_statement(out, then);
+            if let Some(otherwise) = otherwise {
+                write_statement(out, otherwise);
+            }
+        }
+        Stmt::While { body, .. } | Stmt::For { body, .. } => write_statement(out, body),
+        Stmt::Do {
+            body,
+            condition,
+            ..
+        } => {
+            write_statement(out, body);
+            write_expression(out, condition);
+        }
         Stmt::Try {
             block,
             catches,
@@ -518,30 +514,28 @@ pub fn write_statement(out: &mut Printer, statement: &Stmt) {
             for catch in catches {
                 write_catch(out, catch);
             }
-            if let Some(finally) = finally {
-                out.open_bare("finally");
-                write_block(out, finally);
-                out.close();
-            }
+            write_finally(out, finally);
         }
         _ => {}
     }
-    if let Stmt::If {
-        otherwise: Some(otherwise),
-        ..
-    } = statement
-    {
-        write_statement(out, otherwise);
+    out.close();
+}
+
+#[cycle(statements)]
+fn write_finally(out: &mut Printer, finally: &Option<Block>) {
+    if let Some(block) = finally {
+        out.open_bare("finally");
+        write_block(out, block);
+        out.close();
     }
-    if let Stmt::Do { condition, .. } = statement {
-        write_expression(out, condition);
-    }
-    close_statement(out, statement)
 }
 
 #[cycle(statements)]
 fn write_catch(out: &mut Printer, catch: &Catch) {
-    open_catch(out, catch);
+    out.open_bare("catch");
+    write_modifiers(out, &catch.modifiers);
+    out.names("classes", &catch.classes);
+    out.name(&catch.name);
     write_block(out, &catch.block);
     out.close();
 }
@@ -573,14 +567,6 @@ fn write_parameters(out: &mut Printer, receiver: &Option<Param>, parameters: &[P
     for parameter in parameters {
         write_parameter(out, "parameter", parameter);
     }
-}
-
-fn write_fields(out: &mut Printer, fields: &FieldDecl) {
-    out.open_bare("fields");
-    write_modifiers(out, &fields.modifiers);
-    out.typ(&fields.typ);
-    write_variables(out, &fields.variables);
-    out.close();
 }
 
 fn write_method(out: &mut Printer, method: &MethodDecl) {
@@ -618,7 +604,13 @@ fn write_constructor(out: &mut Printer, constructor: &ConstructorDecl) {
 
 pub fn write_member(out: &mut Printer, member: &Member) {
     match member {
-        Member::Field(fields) => write_fields(out, fields),
+        Member::Field(fields) => {
+            out.open_bare("fields");
+            write_modifiers(out, &fields.modifiers);
+            out.typ(&fields.typ);
+            write_variables(out, &fields.variables);
+            out.close();
+        }
         Member::Method(method) => write_method(out, method),
         Member::Constructor(constructor) => write_constructor(out, constructor),
     }
@@ -666,8 +658,4 @@ pub fn write_unit(out: &mut Printer, unit: &Unit) {
         write_class(out, class);
     }
     out.close();
-}
-
-pub fn write_type(out: &mut Printer, typ: &Typ) {
-    out.typ(typ);
 }

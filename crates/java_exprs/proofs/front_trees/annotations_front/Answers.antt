@@ -5,7 +5,7 @@ use Rattle.java_grammar.specs.Reached.{lexemes_of}
 use Rattle.java_values.specs.Values.{values_of}
 use Rattle.java_values.specs.Values as kinds
 use Rattle.java_values.specs.Kinds.{kind_of}
-use Rattle.java_meaning.proofs.Sense.{top_of}
+use Rattle.java_exprs.proofs.Sense.{top_of}
 use Rattle.java_exprs.specs.FrontTrees.{shows_annotations, no_annotation}
 use Rattle.java_exprs.proofs.FrontTreeLaws.{only_tree, same_annotations, moved_only, moved_stop, front_meant, front_kinds, shown_annotations, shown_front}
 use Rattle.java_exprs.proofs.front_trees.annotations_front.Goals as goal

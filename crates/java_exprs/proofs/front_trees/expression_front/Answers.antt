@@ -5,7 +5,7 @@ use Rattle.java_grammar.specs.Reached.{lexemes_of}
 use Rattle.java_values.specs.Values.{values_of}
 use Rattle.java_values.specs.Values as kinds
 use Rattle.java_values.specs.Kinds.{kind_of}
-use Rattle.java_meaning.proofs.Sense.{top_of}
+use Rattle.java_exprs.proofs.Sense.{top_of}
 use Rattle.java_exprs.specs.FrontTrees.{shows_expression}
 use Rattle.java_exprs.proofs.FrontTreeLaws.{only_tree, same_expression, moved_only, moved_stop, front_meant, front_kinds, shown_expression, shown_front}
 use Rattle.java_exprs.proofs.front_trees.expression_front.Goals as goal

@@ -2,8 +2,8 @@ use Rattle.std.proofs.Common.{sym, ◌∙◌, ap, map, None, subst}
 use Rattle.java_syntax.specs.Derives.{step_of}
 use Rattle.java_grammar.specs.Reached.{lexemes_of}
 use Rattle.java_values.specs.Values.{values_of}
-use Rattle.java_nested_trees.specs.Outcomes.{IsNoMisfit}
-use Rattle.java_meaning.specs.Evaluation.{evaluate}
+use Rattle.java_values.specs.Outcomes.{IsNoMisfit}
+use Rattle.java_exprs.specs.Evaluation.{evaluate}
 use Rattle.java_exprs.proofs.FrontTreeLaws.{only_values}
 use Rattle.java_exprs.proofs.front_trees.front_values.Goals as goal
 

@@ -1,6 +1,6 @@
 use Rattle.std.proofs.Common.{◌<◌, ◌≤◌, sym, subst, arith}
 use Rattle.std.specs.Prelude.{Some}
-use Rattle.java_words.specs.Words.{separators, operators, longest_listed}
+use Rattle.java_lexer.specs.Words.{separators, operators, longest_listed}
 use Rattle.java_lexer.specs.Reading.{IsFrontOf}
 use Rattle.java_lexer.specs.declared.fronts.Front.TheVariants.{Piece}
 use Rattle.java_lexer.specs.declared.token.TokenKind.TheVariants.{Separator, Operator}

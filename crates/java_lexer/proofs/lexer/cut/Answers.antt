@@ -4,7 +4,7 @@ use Rattle.std.specs.Option.{option_map}
 use Rattle.std.proofs.lemmas.List.{length-take-le, append_assoc, append-nil}
 use Rattle.std.proofs.Math.Seq.{take-add}
 use Rattle.java_syntax.specs.declared.words.Word.{Word}
-use Rattle.java_lexer.specs.Words.{class_of}
+use Rattle.java_lexer.specs.TokenClasses.{class_of}
 use Rattle.java_lexer.specs.declared.fronts.Front.TheVariants.{Piece, Refused}
 use Rattle.java_lexer.specs.Cut.{Cut, IsFront, ended, here, behind, place_behind}
 use Rattle.java_lexer.specs.Reading.{IsFrontOf, tokens_of}

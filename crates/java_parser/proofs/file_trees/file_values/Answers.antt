@@ -2,8 +2,8 @@ use Rattle.std.proofs.Common.{sym, ap, subst, map, None, []}
 use Rattle.java_syntax.specs.Derives.{step_of}
 use Rattle.java_grammar.specs.Reached.{lexemes_of}
 use Rattle.java_values.specs.Values.{values_of}
-use Rattle.java_nested_trees.specs.Outcomes.{IsNoMisfit}
-use Rattle.java_meaning.specs.Evaluation.{evaluate}
+use Rattle.java_values.specs.Outcomes.{IsNoMisfit}
+use Rattle.java_exprs.specs.Evaluation.{evaluate}
 use Rattle.java_parser.proofs.FileLaws.{on_none, only_values}
 use Rattle.java_parser.proofs.file_trees.file_values.Goals as goal
 

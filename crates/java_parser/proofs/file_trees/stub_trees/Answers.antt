@@ -4,7 +4,7 @@ use Rattle.java_syntax.specs.DeclarationTrees.{unit_of}
 use Rattle.java_grammar.specs.Reached.{lexemes_of}
 use Rattle.java_values.specs.Values.{ValueTree, values_of}
 use Rattle.java_values.specs.Values as kinds
-use Rattle.java_meaning.proofs.Sense.{top_of}
+use Rattle.java_exprs.proofs.Sense.{top_of}
 use Rattle.java_parser.specs.FileTrees.{IsFileValues}
 use Rattle.java_parser.proofs.FileLaws.{stub_meant, stub_kinds, shown_units, only_units}
 use Rattle.java_parser.proofs.file_trees.stub_trees.Goals as goal

@@ -1,5 +1,0 @@
-use Rattle.action_effects.proofs.LeavingLaws.{has_edges}
-use Rattle.action_effects.proofs.exceptions.edges_of_exceptions.Goals as goal
-
-pub returns : goal.returns
-returns c = has_edges c.args.p.now c.requires c.args.action

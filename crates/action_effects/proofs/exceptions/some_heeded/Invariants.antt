@@ -1,6 +1,0 @@
-use Rattle.std.proofs.Common.{◌≡◌}
-use Rattle.action_effects.specs.Exceptions.{some_heeded}
-use Rattle.action_effects.proofs.exceptions.some_heeded.Given as goal
-
-abbrev pub invariant-loop-k : goal.invariant-loop-k
-invariant-loop-k l = l.some ≡ some_heeded l.p l.t l.k

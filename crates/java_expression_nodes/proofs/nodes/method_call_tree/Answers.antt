@@ -1,7 +1,0 @@
-use Rattle.std.proofs.Common.{rules}
-use Rattle.java_syntax.specs.declared.expression_trees.Expr.{the_lemmas}
-use Rattle.java_syntax.proofs.Rows.{exprs_are_items}
-use Rattle.java_expression_nodes.proofs.nodes.method_call_tree.Goals as goal
-
-pub returns : goal.returns
-returns c = search (rules, the_lemmas, exprs_are_items)

@@ -1,4 +1,0 @@
-pub mod Nodes
-pub mod Operators
-pub mod Parts
-pub mod Closed

@@ -1,5 +1,0 @@
-use Rattle.java_meaning.proofs.Sense.{whole_leaves}
-use Rattle.java_meaning.proofs.laws.kinds_fit.Goals as goal
-
-pub returns : goal.returns
-returns c = whole_leaves

@@ -1,3 +1,0 @@
-pub mod NestedTrees
-pub mod Outcomes
-pub mod Lists

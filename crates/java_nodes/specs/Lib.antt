@@ -1,0 +1,5 @@
+pub mod StatementParts
+pub mod Nodes
+pub mod Operators
+pub mod Parts
+pub mod Closed

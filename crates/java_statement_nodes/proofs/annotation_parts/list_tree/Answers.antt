@@ -1,7 +1,0 @@
-use Rattle.std.proofs.Common.{rules}
-use Rattle.java_syntax.specs.declared.annotation_trees.AnnoValue.{the_lemmas}
-use Rattle.java_syntax.proofs.Rows.{values_are_items}
-use Rattle.java_statement_nodes.proofs.annotation_parts.list_tree.Goals as goal
-
-pub returns : goal.returns
-returns c = search (rules, the_lemmas, values_are_items)

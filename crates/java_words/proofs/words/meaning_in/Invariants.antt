@@ -1,7 +1,0 @@
-use Rattle.std.proofs.Common.{◌≡◌, map, drop}
-use Rattle.java_words.specs.Words.{meaning_in, meanings_of}
-use Rattle.java_words.proofs.words.meaning_in.Given as goal
-
--- the rows so far are not the word's
-abbrev pub invariant-loop-row : goal.invariant-loop-row
-invariant-loop-row l = meaning_in (meanings_of (map (λ row. (row.0.now, row.1, row.2)) l.table)) l.word ≡ meaning_in (meanings_of (map (λ row. (row.0.now, row.1, row.2)) (drop l.row-index l.table))) l.word
