@@ -253,21 +253,14 @@ fn member_action(action: DeclarationAction, stack: &mut Vec<Value>) -> Result<()
             leave_member(stack, all, Member::Field(field))
         }
         DeclarationAction::MethodBody => {
-            let body = pop_block(stack);
+            let body = Some(pop_block(stack).tree);
             let throws = pop_names(stack);
             let parameters = pop_parameters(stack);
             let name = pop_name(stack);
             let outcome = pop_optional_type(stack);
             let modifiers = pop_modifiers(stack).tree;
             let all = pop_members(stack);
-            let made = method(
-                modifiers,
-                outcome,
-                name,
-                parameters,
-                throws,
-                Some(body.tree),
-            );
+            let made = method(modifiers, outcome, name, parameters, throws, body);
             leave_member(stack, all, Member::Method(made))
         }
         DeclarationAction::MethodHead => {

@@ -155,20 +155,17 @@ fn plain_action(
         }
         StatementAction::Throw => {
             let thrown = pop_expression(stack);
-            let pos = pop_place(stack).pos;
-            let value = thrown.tree;
+            let (pos, value) = (pop_place(stack).pos, thrown.tree);
             let made = statement(limit, thrown.depth, Stmt::Throw { value, pos }, pos);
             leave_statement(stack, made)
         }
         StatementAction::SomeExpression => {
             let e = pop_expression(stack);
-            let depth = e.depth;
-            let tree = Some(e.tree);
+            let (tree, depth) = (Some(e.tree), e.depth);
             leave(stack, Value::OptionalExpression(Nested { tree, depth }))
         }
         StatementAction::NoExpression => {
-            let depth = 0;
-            let tree = None;
+            let (tree, depth) = (None, 0);
             leave(stack, Value::OptionalExpression(Nested { tree, depth }))
         }
         _other => unreachable!(),
