@@ -11,7 +11,7 @@ use Rattle.program_reading.specs.Programs.{Input, IsProgram}
 use Rattle.program_reading.specs.TypedPrograms.{IsTyped}
 use Rattle.program_faults.specs.ProgramReports.{IsFaultCount, IsFaulty}
 use Rattle.acceptance_laws.proofs.ReadExceptions.{covers}
-use Rattle.acceptance_laws.proofs.Rooms.{counted_fits}
+use Rattle.acceptance_laws.proofs.Rooms.{PassesNoLimit, counted_small, small_fits}
 use Rattle.acceptance_laws.proofs.SameCases.{same_cases}
 use Rattle.acceptance_laws.proofs.SignedTables.{no_cases, signed_tables}
 use Rattle.acceptance_laws.proofs.Declared.{read_once}
@@ -30,14 +30,18 @@ overriding input p is c =
     let members : member_cases table ≡ [] = nil_left (member_cases table) (typing_cases (environment_of table is.sources) (source_classes table is.sources)) typed.right in
     sym (same_cases table p (signed_tables table is.typed p is.typed.bodies.items typed.elaborated.table is.annotated.signed) c) ∙ no_cases table members c
 
-pub counted_accepted : (input : Input) (p : Program) → IsProgram input p → IsFaultCount p 0 → (IsFaulty p → ⊥) → Accept p
-counted_accepted input p is counted none = record {
+-- the program of files in which no body passes a limit on controls and places, and no path breaks a rule
+pub faultless_accepted : (input : Input) (p : Program) → IsProgram input p → PassesNoLimit p → (IsFaulty p → ⊥) → Accept p
+faultless_accepted input p is small none = record {
   well_formed = is.well_formed;
   declares_once = read_once input p is;
   overriding = overriding input p is;
   annotations = is.annotated.right;
   signatures = signed_twice is.typed p is.annotated.signed;
   covers = covers input p is;
-  fits = counted_fits p 0 (λ f x found. (is.well_formed.valid.typed.fields f x found).listed) counted;
+  fits = small_fits p (λ f x found. (is.well_formed.valid.typed.fields f x found).listed) small;
   no_fault = λ b o rule at names faulty. none (record { body = b; origin = o; rule = rule; at = at; names = names; faulty = faulty });
 }
+
+pub counted_accepted : (input : Input) (p : Program) → IsProgram input p → IsFaultCount p 0 → (IsFaulty p → ⊥) → Accept p
+counted_accepted input p is counted none = faultless_accepted input p is (counted_small p 0 counted) none

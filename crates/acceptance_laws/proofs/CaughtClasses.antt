@@ -15,7 +15,7 @@ use Rattle.java_syntax.specs.StatementTrees.{CatchTrees, no_catch, and_catch}
 use Rattle.java_typed_trees.specs.Exceptions.{is_checked, is_undeclared}
 use Rattle.java_call_rules.specs.WrittenTypes.{class_of_name, unknown_name_cases}
 use Rattle.java_call_rules.specs.Surroundings.{Surroundings}
-use Rattle.java_statement_rules.specs.CatchClauses.{alternative_cases, alternatives_cases, caught_by, caught_class, classes_named, each_alternative_cases, exception_cases, has_alternative, if_exception, is_exception_class, or_throwable}
+use Rattle.java_statement_rules.specs.CatchClauses.{alternative_cases, alternatives_cases, are_apart, caught_by, caught_class, classes_named, each_alternative_cases, exception_cases, has_alternative, if_exception, is_exception_class, or_throwable}
 use Rattle.java_statement_rules.specs.Contexts.{StatementContext, locals_of}
 use Rattle.java_statement_rules.specs.DeclaredVariables.{double_cases}
 use Rattle.java_statement_rules.specs.StatementCases.{unless}
@@ -57,7 +57,7 @@ caught_is q s c alike (and_catch modifiers names name b more) place none k =
     let clause = clause_cases c names name place in
     let inner = block_cases (catch_context c modifiers names name) b in
     let rest = catches_cases (next_catch_context c b) more place in
-    let named = nil_right (unless (has_alternative names) place) (each_alternative_cases c.surroundings place names) (nil_left (alternatives_cases c.surroundings place names) (double_cases place (locals_of c) name.text) (nil_first clause inner rest none)) in
+    let named = nil_right (unless (has_alternative names && are_apart c.surroundings names) place) (each_alternative_cases c.surroundings place names) (nil_left (alternatives_cases c.surroundings place names) (double_cases place (locals_of c) name.text) (nil_first clause inner rest none)) in
     let same = alike names ∙ sym (classes_same c.surroundings place names named) in
     list_any-append (is_under q k) (caught_by s names) (caught_by_all s more)
     ∙ ap (λ xs. list_any (is_under q k) xs || list_any (is_under q k) (caught_by_all s more)) same

@@ -1,5 +1,5 @@
 -- A body that passes no limit has room in sets of places, and so has a number that names no body.
-use Rattle.std.proofs.Common.{◌≡◌, ap, refl, subst, arith, ℕ, inl, inr, None, List, [], length}
+use Rattle.std.proofs.Common.{◌≡◌, ◌<◌, ap, refl, subst, arith, ℕ, inl, inr, None, List, [], length}
 use Rattle.std.specs.Prelude.{Option, filter}
 use Rattle.std.specs.List.{Contains}
 use Rattle.std.proofs.lemmas.Bool.{cases_lt}
@@ -18,7 +18,11 @@ use Rattle.java_control.specs.Remaining.{Todo}
 use Rattle.accepted_programs.specs.Paths.{FitsPlaces, relation_of}
 use Rattle.program_faults.specs.ListedFields.{HasListedFields}
 use Rattle.program_faults.proofs.StepRooms.{fits_places}
-use Rattle.program_faults.specs.ProgramReports.{IsFaultCount}
+use Rattle.program_faults.specs.ProgramReports.{IsFaultCount, body_id}
+
+-- no body of the program passes a limit on controls and places
+abbrev pub PassesNoLimit : Program → Type 0
+PassesNoLimit p = (i : ℕ) → i < length p.bodies.items → (r : Refusal) → PassesLimit p (body_id i) r → ⊥
 
 module _ (p : Program) where
   within_limits : (b : BodyId) → ((r : Refusal) → PassesLimit p b r → ⊥) → HasTooManyPlaces p b → ⊥
@@ -42,14 +46,20 @@ module _ (p : Program) where
       let below = inside.1 in
       absurd (omega (arith, below))
 
-  few_places : (n : ℕ) → IsFaultCount p n → (b : BodyId) → HasTooManyPlaces p b → ⊥
-  few_places n h b many = elim (cases_lt b.0 (length p.bodies.items)) [
-    | inl inside ↦ (
-        let long = h.has.long in
-        let one = at_place h.faults b.0 (omega (arith, inside, long)) in
-        within_limits b (h.has.each b.0 one.0 one.1).small many)
+  few_places : PassesNoLimit p → (b : BodyId) → HasTooManyPlaces p b → ⊥
+  few_places small b many = elim (cases_lt b.0 (length p.bodies.items)) [
+    | inl inside ↦ within_limits b (small b.0 inside) many
     | inr past ↦ not_there b (slice_get_past p.bodies.items b.0 past) many
   ]
 
+  pub small_fits : HasListedFields p → PassesNoLimit p → (b : BodyId) → FitsPlaces p b (relation_of p b)
+  small_fits listed small b = fits_places p b listed (few_places small b)
+
+  pub counted_small : (n : ℕ) → IsFaultCount p n → PassesNoLimit p
+  counted_small n h i inside =
+      let long = h.has.long in
+      let one = at_place h.faults i (omega (arith, inside, long)) in
+      (h.has.each i one.0 one.1).small
+
   pub counted_fits : (n : ℕ) → HasListedFields p → IsFaultCount p n → (b : BodyId) → FitsPlaces p b (relation_of p b)
-  counted_fits n listed h b = fits_places p b listed (few_places n h b)
+  counted_fits n listed h = small_fits listed (counted_small n h)

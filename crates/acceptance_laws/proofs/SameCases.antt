@@ -22,8 +22,8 @@ use Rattle.program_model.specs.Overrides.{Overriding, declared_overrides, is_abs
 use Rattle.program_model.specs.SuperTests.{classes_above, is_class, is_under}
 use Rattle.java_conversions.specs.Conversions.{array_fits, class_fits, fits, text_fits}
 use Rattle.java_conversions.specs.Types.{is_reference}
-use Rattle.accepted_programs.specs.Results.{is_result_under}
-use Rattle.accepted_programs.specs.Cases.{body_case, body_cases, class_cases, covers, is_abstract_method, is_checked, is_instance_kind, lacks, lacks_by, lacks_of, may_override, may_throw, override_case, override_cases, throws_no_more}
+use Rattle.accepted_programs.specs.Results.{covers, is_checked, is_result_under, may_throw, throws_no_more}
+use Rattle.accepted_programs.specs.Cases.{body_case, body_cases, class_cases, is_abstract_method, is_instance_kind, lacks, lacks_by, lacks_of, may_override, override_case, override_cases}
 use Rattle.acceptance_laws.specs.SameTables.{HasSameHead, HaveSameTables, IsSameClass}
 use Rattle.acceptance_laws.proofs.Alike.{above_same, abstract_same, all_same, any_same, class_same, filter_same, flat_flat, flat_same, interface_same, is_alike_same, method_same, methods_same, place_same, under_same}
 use Rattle.acceptance_laws.proofs.SameRuns.{run_same}

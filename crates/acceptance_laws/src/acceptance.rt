@@ -11,3 +11,9 @@ ghost use Rattle.program_faults.specs.ProgramReports.{IsFaultCount, IsFaulty};
 pub fn counted_program_is_accepted()
     ensures { (input : Input) (p : Program) → IsProgram input p → IsFaultCount p 0 → (IsFaulty p → ⊥) → Accept p }
 {}
+
+/// In an accepted program the rules derive no fault. (And where its faults are counted, be there none or some, no body stops the check: `counted_program_does_not_stop`. So
+/// for one program the cases of a check exclude each other.)
+pub fn accepted_program_has_no_fault()
+    ensures { (p : Program) → Accept p → IsFaulty p → ⊥ }
+{}

@@ -15,7 +15,7 @@ mod distinct_method;
 mod overriding;
 mod program_fault;
 
-pub use acceptance::counted_program_is_accepted;
+pub use acceptance::{accepted_program_has_no_fault, counted_program_is_accepted};
 pub use checked_exception::{
     elaborated_program_covers_its_exceptions, read_program_covers_its_exceptions,
 };

@@ -6,8 +6,9 @@ ghost use Rattle.program_model.specs.Lookups.{class_at, field_at, method_at};
 ghost use Rattle.program_model.specs.Validity.{IsNumbered};
 ghost use Rattle.refusal_order.specs.Refusals.{least};
 ghost use Rattle.must_call_sets.specs.Overridings.{class_ids};
-ghost use Rattle.must_call_sets.specs.AliasCases.{alias_cases_in, is_alias_class, is_alias_constructor_in, is_bad_alias_class, is_final_in, is_heavy_super, is_one_final, is_owning_in, owning_fields, resets_near};
+ghost use Rattle.must_call_sets.specs.AliasCases.{alias_cases_in, is_alias_class, is_alias_constructor_in, is_bad_alias_class, is_final_in, is_heavy_super, is_one_final, is_owning_in, owning_fields, passes_over, resets_near};
 
+use crate::passed_over::passes_over;
 use must_call_sets::{is_constructor_kind, is_heavy_class, is_position};
 use program_model::{Class, ClassId, FieldId, Method, MethodId, Program, under};
 use refusal_order::{lesser_of, where_true};
@@ -106,10 +107,23 @@ fn is_reset_near(p: &Program, class: ClassId, methods: &[Method]) -> bool
     methods.iter().any(|method| resets_near(p, class, method))
 }
 
+// Some constructor of the class passes over what must be called on the object behind its alias.
+fn is_passing_over(p: &Program, class: &Class) -> bool
+    ensures { result ≡ list_any (λ m. passes_over p.now class.now (method_at p.now m)) class.now.methods.items }
+{
+    class
+        .methods
+        .iter()
+        .any(|method| passes_over(p, class, *method))
+}
+
 fn is_bad_alias_class(p: &Program, number: ClassId, class: &Class) -> bool
     ensures { result ≡ is_bad_alias_class p.now number class.now }
 {
-    !is_one_final(p, class) || is_heavy_super(p, class.sup) || is_reset_near(p, number, &p.methods)
+    !is_one_final(p, class)
+        || is_heavy_super(p, class.sup)
+        || is_reset_near(p, number, &p.methods)
+        || is_passing_over(p, class)
 }
 
 fn class_case(p: &Program, number: ClassId) -> Option<Refusal>

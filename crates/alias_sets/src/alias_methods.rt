@@ -146,7 +146,7 @@ fn calls_alias(p: &Program, method: &Method) -> bool
     }
 }
 
-fn lists(classes: &[ClassId], class: ClassId) -> bool
+pub(crate) fn lists(classes: &[ClassId], class: ClassId) -> bool
     ensures { result ≡ has_class classes.now class }
 {
     classes.iter().any(|listed| *listed == class)

@@ -5,6 +5,7 @@ mod alias_classes;
 mod alias_methods;
 mod alias_refusals;
 mod aliases;
+mod passed_over;
 mod place_rows;
 
 pub use alias_refusals::alias_rule;

@@ -3,6 +3,7 @@ use Rattle.std.proofs.Common.{◌≡◌, ◌∙◌, sym, ap, refl, subst, ℕ, �
 use Rattle.std.specs.Prelude.{if◌then◌else◌, map, slice_get}
 use Rattle.std.specs.List.{flat_map, list_any}
 use Rattle.indexmap.specs.IndexSet.{insert_all, insert_key}
+use Rattle.rlc_base.specs.declared.code.Code.TheVariants as refused
 use Rattle.rlc_base.specs.declared.faults.Stop.{Stop}
 use Rattle.rlc_base.specs.declared.faults.Stop.TheVariants as stops
 use Rattle.rlc_base.specs.declared.place.Pos.{Pos}
@@ -11,13 +12,14 @@ use Rattle.program_model.specs.declared.program.Program.{Program}
 use Rattle.reached_pairs.specs.Searches.{AreOnce, IsAt, Stands}
 use Rattle.reached_pairs.proofs.ListLaws.{at_map, at_push, at_within, map_at, once_push, stands_append, stands_split}
 use Rattle.reached_pairs.proofs.VisitLaws.{lacks_stands}
+use Rattle.java_cfg.specs.Limits.{refusal}
 use Rattle.java_cfg.specs.declared.arc.Arc.{Arc}
 use Rattle.control_actions.specs.declared.fact.Origin.{Origin}
 use Rattle.control_actions.specs.contracts.fact.OriginEq.TheImpl.Laws as origin_laws
 use Rattle.flow_rules.specs.Births.{Birth, births_at_entry}
 use Rattle.flow_rules.specs.Paths.{entered, born}
 use Rattle.body_origins.specs.Nodes.{AreNodes, move_of, relation_in, row_in}
-use Rattle.body_origins.specs.Origins.{HasManyOrigins, IsBorn, IsOriginsCause, arc_births, births_in, origins_in, row_births, same_origin}
+use Rattle.body_origins.specs.Origins.{HasManyOrigins, IsBorn, arc_births, births_in, origins_in, row_births, same_origin}
 use Rattle.body_origins.specs.Pairs.{IsPairsCause, IsReachedPair, Pair, ReachesMorePairs, most_pairs}
 
 module _ {X : Type 0} (eq : X → X → Bool) where
@@ -109,7 +111,8 @@ module _ (p : Program) (b : BodyId) (rows : List (List Arc)) (nodes : AreNodes r
           subst (λ (z : Pair ℕ). IsReachedPair p b (relation_in rows) z × IsAt (o ∷ os) 0 z.origin) same (one.1.1, refl)
       each o os one rest (suc i) x here = rest.each i x here
 
-  many_pairs : HasManyOrigins [] (origins_in (births_in p b rows)) → ReachesMorePairs p b (relation_in rows) most_pairs
+  -- where the origins are too many, so are the pairs
+  many_pairs : HasManyOrigins (origins_in (births_in p b rows)) → ReachesMorePairs p b (relation_in rows) most_pairs
   many_pairs many =
       let os = insert_all same_origin [] many.0 in
       let all =
@@ -129,8 +132,6 @@ module _ (p : Program) (b : BodyId) (rows : List (List Arc)) (nodes : AreNodes r
       from_none xs o (inl never) = absurd (let no : None ≡ Some o = never.1 in cc)
       from_none xs o (inr stands) = stands
 
-  -- where the origins are too many, so are the pairs
-  pub origins_cause : (pos : Pos) (stop : Stop) → IsOriginsCause [] (origins_in (births_in p b rows)) pos stop → IsPairsCause p b (relation_in rows) pos stop
-  origins_cause pos (stops.Refused x) cause = cause
-  origins_cause pos (stops.TooMuch x) cause = (cause.0, many_pairs cause.1)
-  origins_cause pos stops.NoMemory cause = tt
+  -- why the origins are too many
+  pub count_cause : (pos : Pos) (stop : Stop) → stop ≡ stops.TooMuch (refusal refused.TooManyFacts pos) → HasManyOrigins (origins_in (births_in p b rows)) → IsPairsCause p b (relation_in rows) pos stop
+  count_cause pos stop is many = subst (IsPairsCause p b (relation_in rows) pos) (sym is) (refl, many_pairs many)

@@ -4,16 +4,11 @@ use Rattle.std.specs.List.{flat_map}
 use Rattle.indexmap.specs.IndexSet.{insert_all}
 use Rattle.program_model.specs.declared.kinds.BodyId.{BodyId}
 use Rattle.program_model.specs.declared.program.Program.{Program}
-use Rattle.rlc_base.specs.declared.code.Code.TheVariants as refused
-use Rattle.rlc_base.specs.declared.faults.Stop.{Stop}
-use Rattle.rlc_base.specs.declared.faults.Stop.TheVariants as stops
-use Rattle.rlc_base.specs.declared.place.Pos.{Pos}
 use Rattle.reached_pairs.specs.Searches.{IsAt}
 use Rattle.control_actions.specs.declared.fact.Fact.{Fact}
 use Rattle.control_actions.specs.declared.fact.Origin.{Origin}
 use Rattle.control_actions.specs.contracts.fact.OriginPartialEq.TheImpl as origin_eq
 use Rattle.java_cfg.specs.declared.arc.Arc.{Arc}
-use Rattle.java_cfg.specs.Limits.{refusal}
 use Rattle.flow_rules.specs.Births.{Birth, births_at_entry, births_of_step}
 use Rattle.flow_rules.specs.Paths.{Reach}
 use Rattle.body_origins.specs.Nodes.{relation_in}
@@ -47,18 +42,6 @@ IsBorn p b rows o = (k : ℕ) × ((f : Fact) × Reach p b (relation_in rows) o k
 abbrev pub AreBorn : Program → BodyId → List (List Arc) → List Origin → Type 0
 AreBorn p b rows os = (n : ℕ) (o : Origin) → IsAt os n o → IsBorn p b rows o
 
--- why an origin is not taken, where so many are held then
-abbrev pub IsOriginCause : Pos → ℕ → Stop → Type 0
-IsOriginCause pos count (stops.Refused x) = ⊥
-IsOriginCause pos count (stops.TooMuch x) = (x ≡ refusal refused.TooManyFacts pos) × (most_pairs < count)
-IsOriginCause pos count stops.NoMemory = Unit {0}
-
--- among some first part of the values there are more than a million that differ from each other and from those held
-abbrev pub HasManyOrigins : List Origin → List Origin → Type 0
-HasManyOrigins held all = (first rest : List Origin) × ((all ≡ first ++ rest) × (most_pairs < length (insert_all same_origin held first)))
-
--- why origins are not taken, where some are held
-abbrev pub IsOriginsCause : List Origin → List Origin → Pos → Stop → Type 0
-IsOriginsCause held all pos (stops.Refused x) = ⊥
-IsOriginsCause held all pos (stops.TooMuch x) = (x ≡ refusal refused.TooManyFacts pos) × HasManyOrigins held all
-IsOriginsCause held all pos stops.NoMemory = Unit {0}
+-- among some first part of the values there are more than a million that differ from each other
+abbrev pub HasManyOrigins : List Origin → Type 0
+HasManyOrigins all = (first rest : List Origin) × ((all ≡ first ++ rest) × (most_pairs < length (insert_all same_origin [] first)))

@@ -7,4 +7,4 @@ mod origins;
 
 pub use births::{all_entry_births, all_step_births};
 pub use flow_rules::flow;
-pub use origins::{MAX_PAIRS, body_origins};
+pub use origins::{MAX_PAIRS, all_origins, body_origins};

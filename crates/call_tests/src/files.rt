@@ -77,14 +77,14 @@ fn files_are_read_in_order(rt: HostRuntime) -> Result<(), Fail> {
     let mut names = Vec::new(rt.alloc());
     names.push(String::from_str(rt.alloc(), "B.java")?)?;
     names.push(String::from_str(rt.alloc(), "A.java")?)?;
-    match read_all(rt.alloc(), &names, &mut files) {
+    match read_all(rt.alloc(), 0, &names, &mut files) {
         Ok(texts) => assert_eq!(rt; texts[1].bytes(), b"class A {}".as_slice()),
         Err(stop) => assert_eq!(rt; stop, ReadingStop::Failed(9)),
     }
     names.push(String::from_str(rt.alloc(), "C.java")?)?;
     assert!(rt;
         matches!(
-            read_all(rt.alloc(), &names, &mut files),
+            read_all(rt.alloc(), 0, &names, &mut files),
             Err(ReadingStop::Failed(2))
         )
     );

@@ -1,5 +1,6 @@
 //! Cases of whole commands, each run through the top call over files and a sink in memory.
 
+use crate::stubs::StubFile;
 use crate::trial::trial_of;
 use case_files::{Answer, Case, Count, Cut, agrees, read_cases};
 use outside::Files;
@@ -16,8 +17,14 @@ fn print_answer(rt: &impl Print, head: &str, answer: &Answer) -> io::Result<()> 
 }
 
 // Runs one case, and prints it where it fails.
-fn run_case(rt: &impl Print, alloc: Global, file: &str, case: &Case) -> Result<bool, Cut> {
-    let trial = trial_of(alloc, case)?;
+fn run_case(
+    rt: &impl Print,
+    alloc: Global,
+    file: &str,
+    case: &Case,
+    stubs: &[StubFile],
+) -> Result<bool, Cut> {
+    let trial = trial_of(alloc, case, stubs)?;
     let (comparison, wanted, given) = trial.run(alloc)?;
     if agrees(comparison, &wanted, &given) {
         return Ok(true);
@@ -34,9 +41,10 @@ fn count_case(
     alloc: Global,
     file: &str,
     case: &Case,
+    stubs: &[StubFile],
     count: &mut Count,
 ) -> io::Result<()> {
-    match run_case(rt, alloc, file, case) {
+    match run_case(rt, alloc, file, case, stubs) {
         Ok(has_passed) => count.add(has_passed),
         Err(Cut::Output(error)) => return Err(error),
         Err(Cut::Form(fail)) => {
@@ -47,8 +55,8 @@ fn count_case(
     Ok(())
 }
 
-/// Runs the cases of one file. Prints each case whose answer is another than the one that is wanted, and counts the cases that passed
-/// and failed.
+/// Runs the cases of one file, which may take these stub files. Prints each case whose answer is another than the one that is wanted,
+/// and counts the cases that passed and failed.
 ///
 /// # Errors
 ///
@@ -58,10 +66,11 @@ pub fn run_file<F: Files>(
     alloc: Global,
     files: &mut F,
     file: &str,
+    stubs: &[StubFile],
     count: &mut Count,
 ) -> Result<(), Cut> {
     for case in &read_cases(alloc, files, file)? {
-        count_case(rt, alloc, file, case, count)?;
+        count_case(rt, alloc, file, case, stubs, count)?;
     }
     Ok(())
 }

@@ -1,5 +1,6 @@
 // What a case asks for, as its sections say.
 
+use crate::stubs::StubFile;
 use case_files::{Answer, Case, Comparison, FormFail, Section};
 use outside::{MemFiles, MemSink};
 use rlc_cli::rlc;
@@ -13,6 +14,8 @@ const ROOM: usize = 1 << 20;
 pub struct Trial {
     files: MemFiles,
     words: Vec<String>,
+    // The names of stub files, which stand behind the other words.
+    stub_words: Vec<String>,
     // Of the sink: the numbers of the writes that fail, its room, and the most bytes that it takes at a write.
     failing_writes: Vec<u64>,
     room: usize,
@@ -26,6 +29,7 @@ impl Trial {
         Trial {
             files: MemFiles::new(alloc),
             words: Vec::new(alloc),
+            stub_words: Vec::new(alloc),
             failing_writes: Vec::new(alloc),
             room: ROOM,
             most: ROOM,
@@ -38,7 +42,8 @@ impl Trial {
     pub fn run(self, alloc: Global) -> Result<(Comparison, Answer, Answer), FormFail> {
         let Trial {
             mut files,
-            words,
+            mut words,
+            stub_words,
             failing_writes,
             room,
             most,
@@ -48,6 +53,9 @@ impl Trial {
         let Some(wanted) = wanted else {
             return Err(FormFail::Section);
         };
+        for word in &stub_words {
+            words.push(String::from_str(alloc, word)?)?;
+        }
         let mut out = MemSink::new(alloc, room, most.max(1))?;
         for number in &failing_writes {
             out.fail_at(*number)?;
@@ -105,6 +113,34 @@ impl Trial {
         Ok(())
     }
 
+    // Takes a stub file.
+    fn take_stub(&mut self, alloc: Global, stub: &StubFile) -> Result<(), FormFail> {
+        self.files.put(stub.name.as_bytes(), &stub.bytes)?;
+        self.stub_words.push(String::from_str(alloc, &stub.name)?)?;
+        Ok(())
+    }
+
+    // The section of stub files: the names of those that are taken, or nothing, where all are.
+    fn take_stubs(
+        &mut self,
+        alloc: Global,
+        names: &str,
+        stubs: &[StubFile],
+    ) -> Result<(), FormFail> {
+        if names.is_empty() {
+            for stub in stubs {
+                self.take_stub(alloc, stub)?;
+            }
+        }
+        for name in names.split_ascii_whitespace() {
+            let Some(stub) = stubs.iter().find(|stub| stub.name.as_str() == name) else {
+                return Err(FormFail::Section);
+            };
+            self.take_stub(alloc, stub)?;
+        }
+        Ok(())
+    }
+
     fn set_comparison(&mut self, body: &str) -> Result<(), FormFail> {
         self.comparison = match body {
             "status\n" => Comparison::Status,
@@ -115,7 +151,12 @@ impl Trial {
         Ok(())
     }
 
-    fn set(&mut self, alloc: Global, section: &Section) -> Result<(), FormFail> {
+    fn set(
+        &mut self,
+        alloc: Global,
+        section: &Section,
+        stubs: &[StubFile],
+    ) -> Result<(), FormFail> {
         let content = section.content(alloc, &section.body)?;
         if let Some(name) = section.head.strip_prefix("file ") {
             self.files.put(name.as_bytes(), &content)?;
@@ -126,6 +167,7 @@ impl Trial {
             "answer" => self.set_answer(alloc, &content),
             "path" => self.set_comparison(&section.body),
             "labels" => Ok(()),
+            "stubs" => self.take_stubs(alloc, &section.body, stubs),
             "outside" => {
                 for line in section.body.lines() {
                     self.set_outside(line)?;
@@ -137,11 +179,11 @@ impl Trial {
     }
 }
 
-/// What the sections of a case ask for.
-pub fn trial_of(alloc: Global, case: &Case) -> Result<Trial, FormFail> {
+/// What the sections of a case ask for, which may take these stub files.
+pub fn trial_of(alloc: Global, case: &Case, stubs: &[StubFile]) -> Result<Trial, FormFail> {
     let mut trial = Trial::new(alloc);
     for section in &case.sections {
-        trial.set(alloc, section)?;
+        trial.set(alloc, section, stubs)?;
     }
     Ok(trial)
 }

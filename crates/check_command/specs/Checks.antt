@@ -42,10 +42,10 @@ pub data IsUnchecked (files : FileTexts) (answer : Answer) : Type 0 where
 -- ---- the answer
 
 -- Why this is the answer of a check of these texts: it is accepted where the program is, so that it is well formed and no path in a
--- body of it breaks a rule; and it has leaks, with their reports, where the flow rules derive a fault in the program.
+-- body of it breaks a rule, and no body passes a limit; and it has leaks, with their reports, where the flow rules derive a fault in the program.
 pub data IsChecked (files : FileTexts) (answer : Answer) : Type 0 where
   unchecked : IsUnchecked files answer → IsChecked files answer
-  accepted : (p : Program) → IsProgramOf files p → Accept p → answer.outcome ≡ outcomes.Accepted → answer.text ≡ [] → IsChecked files answer
+  accepted : (p : Program) → IsProgramOf files p → Accept p → IsFaultCount p 0 → answer.outcome ≡ outcomes.Accepted → answer.text ≡ [] → IsChecked files answer
   leaking : (p : Program) (count : ℕ) → IsProgramOf files p → IsFaulty p → answer.outcome ≡ outcomes.Leaks → IsFaultCount p count
       → IsReportText p (file_names files.names) count answer.text → IsChecked files answer
 

@@ -18,8 +18,8 @@ use program_model::Program;
 use rlc_base::Text;
 use std::alloc::Global;
 
-// The faults of the program of the files.
-fn program_faults(
+/// The faults of the program of the files.
+pub(crate) fn program_faults(
     alloc: Global,
     names: &[Text],
     files: CommandTexts<'_>,

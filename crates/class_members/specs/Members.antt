@@ -19,7 +19,7 @@ use Rattle.program_model.specs.Overrides.{is_interface, is_method_kind, methods_
 use Rattle.class_members.specs.declared.fields.FieldMember.{FieldMember}
 use Rattle.class_members.specs.declared.fields.FieldMember.TheVariants as found
 use Rattle.class_members.specs.Signatures.{have_one_signature}
-use Rattle.class_members.specs.Bodies.{has_body}
+use Rattle.class_members.specs.Bodies.{goes_before}
 
 -- ---- methods
 
@@ -46,17 +46,17 @@ methods_above p from c name = flat_map (declared_methods p from c name) (classes
 abbrev pub is_below : Program → ClassId → ClassId → Bool
 is_below p d e = is_under p d e && not (is_class d e)
 
--- a class takes no method of an interface for one that has a body in it (JLS 8.4.8)
+-- a class takes no method of an interface for one whose body goes before it (JLS 8.4.8)
 abbrev pub keeps : Program → ClassId → Method → Method → Bool
-keeps p c m n = not (is_interface p c) && is_interface p n.class && has_body p c m
+keeps p c m n = not (is_interface p c) && is_interface p n.class && goes_before p c m n
 
 -- in `c`, `n` overrides or hides `m` (JLS 8.4.8.1, 8.4.8.2, 9.4.1.1)
 abbrev pub replaces : Program → ClassId → Method → Method → Bool
 replaces p c m n = have_one_signature m n && is_below p n.class m.class && not (keeps p c m n)
 
--- in `c`, `n` is the body for `m`, which has none: the class does not inherit `m` (JLS 8.4.8)
+-- in `c`, `n` is the body for `m`: the class does not inherit `m` (JLS 8.4.8)
 abbrev pub implements : Program → ClassId → Method → Method → Bool
-implements p c m n = have_one_signature m n && has_body p c n && not (has_body p c m)
+implements p c m n = have_one_signature m n && goes_before p c n m
 
 abbrev pub is_so : (Method → Bool) → Option Method → Bool
 is_so test None = false
@@ -71,7 +71,7 @@ has_one p test all (Some m) = list_any (λ n. is_so (test m) (method_at p n)) al
 abbrev pub not_replaced : Program → ClassId → List MethodId → List MethodId
 not_replaced p c all = filter (λ m. not (has_one p (replaces p c) all (method_at p m))) all
 
--- those without a body only where no other of them is their body
+-- those for which no other of them is the body
 abbrev pub not_implemented : Program → ClassId → List MethodId → List MethodId
 not_implemented p c all = filter (λ m. not (has_one p (implements p c) all (method_at p m))) all
 

@@ -5,7 +5,7 @@ ghost use Rattle.std.specs.List.{list_any};
 ghost use Rattle.program_model.specs.Lookups.{class_at};
 ghost use Rattle.program_model.specs.SuperTests.{classes_above};
 ghost use Rattle.program_model.specs.Overrides.{carries, is_carried};
-ghost use Rattle.class_members.specs.Bodies.{has_body};
+ghost use Rattle.class_members.specs.Bodies.{goes_before, has_body};
 
 use crate::classes::{is_interface, is_library};
 use program_model::{ClassId, Method, Program, under};
@@ -49,4 +49,14 @@ pub fn has_body(p: &Program, class: ClassId, m: &Method) -> bool
     } else {
         !m.is_abstract || is_library(p, m.class)
     }
+}
+
+/// Whether in the class the body of `m` goes before that of the other method: the other has none, or `m` is declared by a class
+/// and the other by an interface.
+pub(crate) fn goes_before(p: &Program, class: ClassId, m: &Method, other: &Method) -> bool
+    ensures { result ≡ goes_before p.now class m.now other.now }
+{
+    has_body(p, class, m)
+        && (!has_body(p, class, other)
+            || (is_interface(p, other.class) && !is_interface(p, m.class)))
 }

@@ -13,5 +13,5 @@ pub use bodies::{has_body, is_carried};
 pub use classes::{is_interface, is_library, super_classes, super_of};
 pub use fields::{FieldMember, field_named};
 pub use methods::{constructors_of, methods_named};
-pub use results::is_result_under;
+pub use results::{is_result_under, throws_no_more};
 pub use signatures::{are_types, have_one_signature, is_method_kind, is_type};

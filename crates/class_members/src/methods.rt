@@ -9,7 +9,7 @@ ghost use Rattle.program_model.specs.SuperTests.{classes_above};
 ghost use Rattle.program_model.specs.Overrides.{methods_of};
 ghost use Rattle.class_members.specs.Members.{constructors_of, declared_methods, has_one, implements, is_accessible, is_below, is_constructor_by, is_constructor_kind, is_named, is_so, keeps, methods_above, methods_named, not_implemented, not_replaced, replaces};
 
-use crate::bodies::has_body;
+use crate::bodies::goes_before;
 use crate::classes::is_interface;
 use crate::signatures::{have_one_signature, is_method_kind};
 use program_model::{ClassId, Method, MethodId, MethodKind, Program, under};
@@ -117,7 +117,7 @@ fn is_below(p: &Program, class: ClassId, other: ClassId) -> bool
 fn keeps(p: &Program, class: ClassId, m: &Method, other: &Method) -> bool
     ensures { result ≡ keeps p.now class m.now other.now }
 {
-    !is_interface(p, class) && is_interface(p, other.class) && has_body(p, class, m)
+    !is_interface(p, class) && is_interface(p, other.class) && goes_before(p, class, m, other)
 }
 
 fn replaces(p: &Program, class: ClassId, m: &Method, other: &Method) -> bool
@@ -129,7 +129,7 @@ fn replaces(p: &Program, class: ClassId, m: &Method, other: &Method) -> bool
 fn implements(p: &Program, class: ClassId, m: &Method, other: &Method) -> bool
     ensures { result ≡ implements p.now class m.now other.now }
 {
-    have_one_signature(m, other) && has_body(p, class, other) && !has_body(p, class, m)
+    have_one_signature(m, other) && goes_before(p, class, other, m)
 }
 
 fn is_replaced_by(p: &Program, class: ClassId, m: &Method, other: MethodId) -> bool

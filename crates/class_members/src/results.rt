@@ -1,11 +1,11 @@
-//! Which result types may stand for which (JLS 8.4.5).
+//! Which results (JLS 8.4.5) and which throws clauses (JLS 8.4.8.3) may stand for which.
 
 ghost use Rattle.std.specs.Prelude.{◌≡◌, Some};
-ghost use Rattle.class_members.specs.Results.{is_result_under};
+ghost use Rattle.class_members.specs.Results.{covers, is_checked, is_result_under, may_throw, throws_no_more};
 
 use crate::signatures::is_type;
 use java_conversions::{fits, is_reference};
-use program_model::{Program, VType};
+use program_model::{ClassId, Method, Program, VType, under};
 
 fn is_type_under(p: &Program, t: VType, other: VType) -> bool
     ensures { result ≡ is_result_under p.now (Some t) (Some other) }
@@ -25,4 +25,35 @@ pub fn is_result_under(p: &Program, t: Option<VType>, other: Option<VType>) -> b
             Some(other) => is_type_under(p, t, other),
         },
     }
+}
+
+// Whether exceptions of the class are checked (JLS 11.1.1): it is under neither `RuntimeException` nor `Error`. The class is
+// one of a throws clause, and so under `Throwable`.
+fn is_checked(p: &Program, class: ClassId) -> bool
+    ensures { result ≡ is_checked p.now class }
+{
+    !under(p, class, p.core.runtime_exception) && !under(p, class, p.core.error)
+}
+
+// Whether the throws clause has the class or one above it.
+fn covers(p: &Program, clause: &[ClassId], class: ClassId) -> bool
+    ensures { result ≡ covers p.now clause.now class }
+{
+    clause.iter().any(|covering| under(p, class, *covering))
+}
+
+fn may_throw(p: &Program, clause: &[ClassId], class: ClassId) -> bool
+    ensures { result ≡ may_throw p.now clause.now class }
+{
+    !is_checked(p, class) || covers(p, clause, class)
+}
+
+/// Whether each checked class of the throws clause of `m` is covered by that of `n`.
+pub fn throws_no_more(p: &Program, m: &Method, n: &Method) -> bool
+    ensures { result ≡ throws_no_more p.now m.now n.now }
+{
+    m.sig
+        .throws
+        .iter()
+        .all(|class| may_throw(p, &n.sig.throws, *class))
 }

@@ -1,6 +1,6 @@
 -- The refusals of a class's overriding methods (JLS 8.4.8.1 to 8.4.8.3) and of its methods without a body (JLS 8.1.1.1).
 use Rattle.std.specs.Prelude.{Bool, true, false, ◌&&◌, ◌||◌, not, Option, Some, None, List, [], ◌++◌, flat_map, if◌then◌else◌}
-use Rattle.std.specs.List.{list_all, list_any}
+use Rattle.std.specs.List.{list_any}
 use Rattle.std.specs.Option.{is_some}
 use Rattle.rlc_base.specs.declared.code.Code.TheVariants as refused
 use Rattle.rlc_base.specs.declared.faults.Refusal.{Refusal}
@@ -12,27 +12,11 @@ use Rattle.program_model.specs.declared.program.Class.{Class}
 use Rattle.program_model.specs.declared.program.Method.{Method}
 use Rattle.program_model.specs.declared.program.Program.{Program}
 use Rattle.program_model.specs.Lookups.{class_at, method_at}
-use Rattle.program_model.specs.SuperTests.{is_under}
 use Rattle.program_model.specs.Overrides.{Overriding, is_interface, is_static_kind, method_run, methods_of, overrides_in}
 use Rattle.refusal_order.specs.Refusals.{where_true}
-use Rattle.class_members.specs.Results.{is_result_under}
+use Rattle.class_members.specs.Results.{is_result_under, throws_no_more}
 
 -- ---- overriding methods
-
--- exceptions of the class are checked (JLS 11.1.1)
-abbrev pub is_checked : Program → ClassId → Bool
-is_checked p c = not (is_under p c p.core.runtime_exception) && not (is_under p c p.core.error)
-
--- the throws clause has the class or one above it
-abbrev pub covers : Program → List ClassId → ClassId → Bool
-covers p clause c = list_any (λ d. is_under p c d) clause
-
-abbrev pub may_throw : Program → List ClassId → ClassId → Bool
-may_throw p clause c = not (is_checked p c) || covers p clause c
-
--- each checked class of the throws clause is covered by that of the overridden method (JLS 8.4.8.3)
-abbrev pub throws_no_more : Program → Method → Method → Bool
-throws_no_more p m n = list_all (may_throw p n.sig.throws.items) m.sig.throws.items
 
 -- both are static, or neither is (JLS 8.4.8.1, 8.4.8.2)
 abbrev pub are_static_alike : Method → Method → Bool

@@ -13,5 +13,5 @@ pub use alike::{are_alike, is_alike};
 pub use cases::{class_cases, override_cases};
 pub use class_members::is_library;
 pub use lacking::body_case;
-pub use overriding::{covers, is_checked, may_override};
+pub use overriding::may_override;
 pub use runs::method_run;

@@ -4,42 +4,12 @@ ghost use Rattle.std.specs.Prelude.{◌≡◌, not};
 ghost use Rattle.program_model.specs.Lookups.{optional};
 ghost use Rattle.rlc_base.specs.declared.code.Code.TheVariants as refused;
 ghost use Rattle.refusal_order.specs.Refusals.{where_true};
-ghost use Rattle.class_overrides.specs.Cases.{are_static_alike, covers, is_checked, may_override, may_throw, throws_no_more};
+ghost use Rattle.class_overrides.specs.Cases.{are_static_alike, may_override};
 
 use crate::alike::is_static_kind;
-use class_members::is_result_under;
-use program_model::{ClassId, Method, Program, under};
+use class_members::{is_result_under, throws_no_more};
+use program_model::{Method, Program};
 use rlc_base::{Code, Pos, Refusal};
-
-/// Whether exceptions of the class are checked (JLS 11.1.1): it is under neither `RuntimeException` nor `Error`. The class is
-/// one of a throws clause, and so under `Throwable`.
-pub fn is_checked(p: &Program, class: ClassId) -> bool
-    ensures { result ≡ is_checked p.now class }
-{
-    !under(p, class, p.core.runtime_exception) && !under(p, class, p.core.error)
-}
-
-/// Whether the throws clause has the class or one above it.
-pub fn covers(p: &Program, clause: &[ClassId], class: ClassId) -> bool
-    ensures { result ≡ covers p.now clause.now class }
-{
-    clause.iter().any(|covering| under(p, class, *covering))
-}
-
-fn may_throw(p: &Program, clause: &[ClassId], class: ClassId) -> bool
-    ensures { result ≡ may_throw p.now clause.now class }
-{
-    !is_checked(p, class) || covers(p, clause, class)
-}
-
-fn throws_no_more(p: &Program, m: &Method, n: &Method) -> bool
-    ensures { result ≡ throws_no_more p.now m.now n.now }
-{
-    m.sig
-        .throws
-        .iter()
-        .all(|class| may_throw(p, &n.sig.throws, *class))
-}
 
 fn are_static_alike(m: &Method, n: &Method) -> bool
     ensures { result ≡ are_static_alike m.now n.now }

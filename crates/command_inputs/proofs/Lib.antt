@@ -1,2 +1,3 @@
 pub mod HaltLaws
+pub mod LimitedLaws
 pub mod ReadLaws

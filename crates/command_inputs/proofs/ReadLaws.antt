@@ -1,5 +1,5 @@
 -- There are as many texts as files that were read.
-use Rattle.std.proofs.Common.{◌≡◌, ◌∷◌, [], ap, sym, refl, ℕ, suc, List, length, Option}
+use Rattle.std.proofs.Common.{◌≡◌, ◌∷◌, [], ap, refl, ℕ, suc, List, length, Option}
 use Rattle.outside.specs.Files.{Contents}
 use Rattle.input_files.specs.Reading.{AreContents, Counts}
 use Rattle.command_inputs.specs.Inputs.{AreRead, FileNames, list_of}

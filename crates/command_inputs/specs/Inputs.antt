@@ -64,7 +64,7 @@ pub record AreRead (told : Option Contents) (names : FileNames) (c : Counts) (te
 -- Why the files were not read, and the answer that says so: the words name too many, or reading one stopped.
 pub data IsUnread (told : Option Contents) (names : FileNames) (c : Counts) (answer : Answer) : Type 0 where
   too_many : IsLimitLine refused.TooManyFiles names.files 256 answer → CountsNoFault c → IsUnread told names c answer
-  stopped : IsFew names → IsStopped told (list_of names) c answer → IsUnread told names c answer
+  stopped : IsFew names → IsStopped told 0 (list_of names) c answer → IsUnread told names c answer
 
 -- the text is that of the file of this name, where one is named
 abbrev pub IsFileText : Option Contents → Option (List ℕ) → Option FileText → Type 0

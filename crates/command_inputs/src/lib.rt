@@ -2,9 +2,11 @@
 #![tactic(auto)]
 
 mod halts;
+mod limited;
 mod names;
 mod reading;
 
 pub use halts::Halt;
+pub use limited::{LimitedFile, read_beside};
 pub use names::{CommandNames, CommandTexts, NamedText};
 pub use reading::{read_files, texts_of};

@@ -17,8 +17,8 @@ use outside::Files;
 use rlc_base::Text;
 use std::alloc::Global;
 
-// The words name at most 256 files.
-fn few_files(alloc: Global, files: &[&str]) -> Result<(), Halt>
+/// The words name at most 256 files.
+pub(crate) fn few_files(alloc: Global, files: &[&str]) -> Result<(), Halt>
     ensures few { OnOk result (slice_get (map (λ name. name.now) files.now) 256 ≡ None) }
     ensures many { IfHalted result (IsLimitLine refused.TooManyFiles (map (λ name. name.now) files.now) 256) }
 {
@@ -47,7 +47,7 @@ pub fn read_files<F: Files>(
 {
     few_files(alloc, names.files)?;
     let list = reading_list(alloc, names.settings, names.choices, names.files)?;
-    match read_inputs(alloc, &list, files)? {
+    match read_inputs(alloc, 0, &list, files)? {
         ReadOutcome::Texts(texts) => Ok(texts),
         ReadOutcome::Answered(answer) => Err(Halt::Answered(answer)),
     }

@@ -1,8 +1,8 @@
 -- What some words ask for.
 use Rattle.std.proofs.Common.{◌≡◌, Some, None, [], ◌∷◌, codes, refl}
 use Rattle.clap.proofs.OnLiterals.{clap_on_literals}
-use Rattle.command_words.specs.Modes.{check_app, generate_app, arguments_in, run_app, settings_app}
-use Rattle.command_words.specs.Requests.{check, generate, request_in, run, settings}
+use Rattle.command_words.specs.Modes.{arguments_in, check_app, generate_app, run_app, settings_app, verify_app}
+use Rattle.command_words.specs.Requests.{check, generate, request_in, run, settings, verify}
 
 -- an option may stand behind a file, and with its value in one word
 pub settings_behind_a_file : request_in (codes "check" ∷ codes "B.java" ∷ codes "--config=c" ∷ codes "A.java" ∷ [])
@@ -22,6 +22,10 @@ seed_and_methods = refl
 pub settings_file : request_in (codes "settings" ∷ codes "--config" ∷ codes "c" ∷ []) ≡ Some (settings (codes "c"))
 unfolding clap_on_literals arguments_in settings_app
 settings_file = refl
+
+pub certificate_behind_the_files : request_in (codes "verify" ∷ codes "A.java" ∷ codes "--cert" ∷ codes "c" ∷ []) ≡ Some (verify (codes "c") (record { settings = None; files = codes "A.java" ∷ [] }))
+unfolding clap_on_literals arguments_in verify_app
+certificate_behind_the_files = refl
 
 -- there is no help of clap's own
 pub no_help : request_in (codes "check" ∷ codes "--help" ∷ codes "A.java" ∷ []) ≡ None

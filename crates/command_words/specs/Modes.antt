@@ -51,6 +51,14 @@ generate_app = with_rule (with_rule (bare_app (codes "gen")) (needed_rule (codes
 unfoldable pub settings_app : App
 settings_app = with_rule (bare_app (codes "settings")) (needed_rule (codes "config"))
 
+-- certify [--config F] FILES..
+unfoldable pub certify_app : App
+certify_app = with_inputs (bare_app (codes "certify"))
+
+-- verify --cert F [--config F] FILES..
+unfoldable pub verify_app : App
+verify_app = with_inputs (with_rule (bare_app (codes "verify")) (needed_rule (codes "cert")))
+
 -- a word that can name nothing: it is empty, or a dash alone
 abbrev pub is_void : Text → Bool
 is_void word = is_empty word || bytes_eq word (codes "-")

@@ -2,7 +2,7 @@
 use Rattle.std.specs.Prelude.{◌≡◌, ◌≢◌, ℕ, Option, Some, None, option_and_then, option_map, List, [], ◌∷◌, map, codes, if◌then◌else◌, Result, Ok, Err}
 use Rattle.std.specs.Str.{bytes_eq}
 use Rattle.clap.specs.Words.{App, Row, Text, all_of, first_of}
-use Rattle.command_words.specs.Modes.{check_app, generate_app, arguments_in, run_app, settings_app}
+use Rattle.command_words.specs.Modes.{arguments_in, certify_app, check_app, generate_app, run_app, settings_app, verify_app}
 use Rattle.command_words.specs.Numbers.{number_up_to}
 use Rattle.command_words.specs.declared.commands.Command.{Command}
 use Rattle.command_words.specs.declared.commands.Command.TheVariants as commands
@@ -22,6 +22,8 @@ pub data Request : Type 0 where
   run : (main : Text) (choices : Option Text) (steps : ℕ) → InputNames → Request
   generate : (seed methods : ℕ) → Request
   settings : (file : Text) → Request
+  certify : InputNames → Request
+  verify : (certificate : Text) → InputNames → Request
 
 -- the request that a command stands for
 abbrev pub input_names : Inputs → InputNames
@@ -32,6 +34,8 @@ request_of (commands.Check inputs) = check (input_names inputs)
 request_of (commands.Run main choices steps inputs) = run main.now (option_map (λ name. name.now) choices) steps (input_names inputs)
 request_of (commands.Generate seed methods) = generate seed methods
 request_of (commands.Settings file) = settings file.now
+request_of (commands.Certify inputs) = certify (input_names inputs)
+request_of (commands.Verify certificate inputs) = verify certificate.now (input_names inputs)
 
 -- the settings file and the files, of which there is one at least
 abbrev pub input_names_in : List Row → Option InputNames
@@ -64,6 +68,15 @@ generate_request rows =
 abbrev pub settings_request : List Row → Option Request
 settings_request rows = option_map settings (first_of (codes "config") rows)
 
+abbrev pub certify_request : List Row → Option Request
+certify_request rows = option_map certify (input_names_in rows)
+
+abbrev pub verify_behind : Text → List Row → Option Request
+verify_behind certificate rows = option_map (verify certificate) (input_names_in rows)
+
+abbrev pub verify_request : List Row → Option Request
+verify_request rows = option_and_then (λ certificate. verify_behind certificate rows) (first_of (codes "cert") rows)
+
 -- what is asked for, where the mode takes the words behind it
 abbrev pub request_of_mode : App → (List Row → Option Request) → List Text → Option Request
 request_of_mode app request words = option_and_then request (arguments_in app words)
@@ -74,7 +87,9 @@ request_behind mode words =
     if bytes_eq mode (codes "check") then request_of_mode check_app check_request words
     else (if bytes_eq mode (codes "run") then request_of_mode run_app run_request words
     else (if bytes_eq mode (codes "gen") then request_of_mode generate_app generate_request words
-    else (if bytes_eq mode (codes "settings") then request_of_mode settings_app settings_request words else None)))
+    else (if bytes_eq mode (codes "settings") then request_of_mode settings_app settings_request words
+    else (if bytes_eq mode (codes "certify") then request_of_mode certify_app certify_request words
+    else (if bytes_eq mode (codes "verify") then request_of_mode verify_app verify_request words else None)))))
 
 -- what the words ask for: nothing where they begin with no mode, or with one that does not take the rest
 abbrev pub request_in : List Text → Option Request

@@ -37,6 +37,15 @@ pub enum Command<'a> {
         /// The number of the program's methods, from 0 to 5,000.
         methods: u32,
     },
+    /// Write a certificate of the program of these files, where it is accepted.
+    Certify(Inputs<'a>),
+    /// Say whether a certificate is one of the program of these files.
+    Verify {
+        /// The file with the certificate.
+        certificate: &'a str,
+        /// The files of the program.
+        inputs: Inputs<'a>,
+    },
     /// Print the settings of a file as a document of the newest version.
     Settings {
         /// The settings file.

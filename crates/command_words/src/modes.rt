@@ -2,7 +2,7 @@
 
 ghost use Rattle.std.specs.Prelude.{◌≡◌, codes, false, true, IfOk};
 ghost use Rattle.clap.specs.Words.{app_of, is_simple_and_free, rule_of};
-ghost use Rattle.command_words.specs.Modes.{bare_app, check_app, files_rule, generate_app, needed_rule, option_rule, run_app, settings_app, with_inputs};
+ghost use Rattle.command_words.specs.Modes.{bare_app, certify_app, check_app, files_rule, generate_app, needed_rule, option_rule, run_app, settings_app, verify_app, with_inputs};
 
 use clap::builder::ValueParser;
 use clap::{Arg, ArgAction, Command};
@@ -100,5 +100,27 @@ pub fn settings_mode<'a>(alloc: Global) -> Result<Command<'a>, AllocError>
 {
     let mode = bare(alloc, "settings");
     let mode = mode.arg(needed_option(alloc, "config"))?;
+    Ok(mode)
+}
+
+/// The options and files of `certify`.
+#[tactic(auto, unfolding(crate::specs::Modes::certify_app))]
+pub fn certify_mode<'a>(alloc: Global) -> Result<Command<'a>, AllocError>
+    ensures app { IfOk result (λ command. app_of command ≡ certify_app) }
+    ensures simple { IfOk result (λ command. is_simple_and_free (app_of command) ≡ true) }
+{
+    let mode = with_inputs(alloc, bare(alloc, "certify"))?;
+    Ok(mode)
+}
+
+/// The options and files of `verify`.
+#[tactic(auto, unfolding(crate::specs::Modes::verify_app))]
+pub fn verify_mode<'a>(alloc: Global) -> Result<Command<'a>, AllocError>
+    ensures app { IfOk result (λ command. app_of command ≡ verify_app) }
+    ensures simple { IfOk result (λ command. is_simple_and_free (app_of command) ≡ true) }
+{
+    let mode = bare(alloc, "verify");
+    let mode = mode.arg(needed_option(alloc, "cert"))?;
+    let mode = with_inputs(alloc, mode)?;
     Ok(mode)
 }

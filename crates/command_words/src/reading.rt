@@ -2,11 +2,11 @@
 
 ghost use Rattle.std.specs.Prelude.{◌≡◌, codes, map, string_bytes};
 ghost use Rattle.clap.specs.Words.{first_of, found_of, rows_of};
-ghost use Rattle.command_words.specs.Modes.{check_app, generate_app, run_app, settings_app};
-ghost use Rattle.command_words.specs.Requests.{Finds, request_of_mode, check_request, generate_request, input_names, input_names_in, number_at, request_in, request_of, run_behind, run_request, settings_request, steps_or_default};
+ghost use Rattle.command_words.specs.Modes.{certify_app, check_app, generate_app, run_app, settings_app, verify_app};
+ghost use Rattle.command_words.specs.Requests.{Finds, request_of_mode, certify_request, check_request, generate_request, input_names, input_names_in, number_at, request_in, request_of, run_behind, run_request, settings_request, steps_or_default, verify_behind, verify_request};
 
 use crate::commands::{Command, Inputs, WordsStop};
-use crate::modes::{check_mode, generate_mode, run_mode, settings_mode};
+use crate::modes::{certify_mode, check_mode, generate_mode, run_mode, settings_mode, verify_mode};
 use crate::numbers::number_up_to;
 use crate::parsing::{files_of, parse, value_of};
 use clap::ArgMatches;
@@ -119,6 +119,41 @@ fn settings_command<'a>(matches: &ArgMatches<'a>) -> Result<Command<'a>, WordsSt
     }
 }
 
+fn certify_command<'a>(alloc: Global, matches: &ArgMatches<'a>) -> Result<Command<'a>, WordsStop>
+    ensures { Finds request_of (certify_request (rows_of (found_of matches.now))) result }
+{
+    match inputs_of(alloc, matches) {
+        Ok(inputs) => Ok(Command::Certify(inputs)),
+        Err(stop) => Err(stop),
+    }
+}
+
+// The check of this certificate, where its files are there.
+fn verify_of<'a>(
+    alloc: Global,
+    matches: &ArgMatches<'a>,
+    certificate: &'a str,
+) -> Result<Command<'a>, WordsStop>
+    ensures { Finds request_of (verify_behind certificate.entry.now (rows_of (found_of matches.now))) result }
+{
+    match inputs_of(alloc, matches) {
+        Ok(inputs) => Ok(Command::Verify {
+            certificate,
+            inputs,
+        }),
+        Err(stop) => Err(stop),
+    }
+}
+
+fn verify_command<'a>(alloc: Global, matches: &ArgMatches<'a>) -> Result<Command<'a>, WordsStop>
+    ensures { Finds request_of (verify_request (rows_of (found_of matches.now))) result }
+{
+    match value_of(matches, "cert") {
+        Some(certificate) => verify_of(alloc, matches, certificate),
+        None => Err(WordsStop::Usage),
+    }
+}
+
 fn read_check<'a>(alloc: Global, words: &'a [String]) -> Result<Command<'a>, WordsStop>
     ensures { Finds request_of (request_of_mode check_app check_request (map string_bytes words.entry.now)) result }
 {
@@ -159,8 +194,28 @@ fn read_settings<'a>(alloc: Global, words: &'a [String]) -> Result<Command<'a>, 
     }
 }
 
-/// What the words of the command ask for. The first names the mode, `check`, `run`, `gen` or `settings`, and the rest are
-/// its options and files. `Usage` exactly where the words are none of these: another mode or none, an option that the mode
+fn read_certify<'a>(alloc: Global, words: &'a [String]) -> Result<Command<'a>, WordsStop>
+    ensures { Finds request_of (request_of_mode certify_app certify_request (map string_bytes words.entry.now)) result }
+{
+    let mode = certify_mode(alloc)?;
+    match parse(mode, words) {
+        Ok(matches) => certify_command(alloc, &matches),
+        Err(stop) => Err(stop),
+    }
+}
+
+fn read_verify<'a>(alloc: Global, words: &'a [String]) -> Result<Command<'a>, WordsStop>
+    ensures { Finds request_of (request_of_mode verify_app verify_request (map string_bytes words.entry.now)) result }
+{
+    let mode = verify_mode(alloc)?;
+    match parse(mode, words) {
+        Ok(matches) => verify_command(alloc, &matches),
+        Err(stop) => Err(stop),
+    }
+}
+
+/// What the words of the command ask for. The first names the mode, `check`, `run`, `gen`, `settings`, `certify` or `verify`, and
+/// the rest are its options and files. `Usage` exactly where the words are none of these: another mode or none, an option that the mode
 /// does not have, one that stands twice or lacks its value, one or a file that has to be there and is not, a word that is
 /// empty or a dash alone, an option whose value is empty, or a number that is not 1 to 10 digits, or too large.
 /// `--` ends the options; `--option=VALUE` and `--option VALUE` are the same.
@@ -175,6 +230,8 @@ pub fn read_words<'a>(alloc: Global, words: &'a [String]) -> Result<Command<'a>,
         "run" => read_run(alloc, rest),
         "gen" => read_generate(alloc, rest),
         "settings" => read_settings(alloc, rest),
+        "certify" => read_certify(alloc, rest),
+        "verify" => read_verify(alloc, rest),
         _ => Err(WordsStop::Usage),
     }
 }

@@ -8,5 +8,5 @@ ghost use Rattle.command_words.specs.Usage.{usage_text};
 pub fn usage() -> &'static [u8]
     ensures { result.now ≡ usage_text }
 {
-    b"usage: rlc check [--config FILE] FILE..\nusage: rlc run --main CLASS [--choices FILE] [--steps N] [--config FILE] FILE..\nusage: rlc gen --seed K --methods M\nusage: rlc settings --config FILE\n"
+    b"usage: rlc check [--config FILE] FILE..\nusage: rlc run --main CLASS [--choices FILE] [--steps N] [--config FILE] FILE..\nusage: rlc gen --seed K --methods M\nusage: rlc settings --config FILE\nusage: rlc certify [--config FILE] FILE..\nusage: rlc verify --cert FILE [--config FILE] FILE..\n"
 }

@@ -99,7 +99,7 @@ none_passes f (y ∷ ys) zero x none at = ap f (sym (let both : Some y ≡ Some 
 none_passes f (y ∷ ys) (suc i) x none at = none_passes f ys i x (or_parts (f y) (list_any f ys) none).1 at
 
 -- some element passes the test
-any_passes : {X : Type 0} (f : X → Bool) (xs : List X) → list_any f xs ≡ true → (i : ℕ) × (x : X) × (slice_get xs i ≡ Some x) × (f x ≡ true)
+pub any_passes : {X : Type 0} (f : X → Bool) (xs : List X) → list_any f xs ≡ true → (i : ℕ) × (x : X) × (slice_get xs i ≡ Some x) × (f x ≡ true)
 any_passes f [] is = absurd (true≢false (sym is))
 any_passes {X} f (y ∷ ys) is = go (f y) refl (λ later. any_passes f ys later) is
   where
@@ -110,11 +110,11 @@ any_passes {X} f (y ∷ ys) is = go (f y) refl (λ later. any_passes f ys later)
 -- ---- classes
 
 -- a class under another is of its type
-under_type : (p : Program) (e d : ClassId) (k : Class) → class_at p e ≡ Some k → is_under p e d ≡ true → is_of_type k (Some (types.Obj d)) ≡ true
+pub under_type : (p : Program) (e d : ClassId) (k : Class) → class_at p e ≡ Some k → is_under p e d ≡ true → is_of_type k (Some (types.Obj d)) ≡ true
 under_type p e d k at under = sym (ap (λ (z : Option Class). has_class (classes_above e z) d) at) ∙ under
 
 -- what is under a class of the table is in the table
-in_table : (p : Program) (e d : ClassId) (k : Class) → class_at p d ≡ Some k → is_under p e d ≡ true → (z : Class) × (class_at p e ≡ Some z)
+pub in_table : (p : Program) (e d : ClassId) (k : Class) → class_at p d ≡ Some k → is_under p e d ≡ true → (z : Class) × (class_at p e ≡ Some z)
 in_table p e d k at under = go (class_at p e) refl under
   where
     alone : (b : Bool) → (b || false) ≡ true → b ≡ true
@@ -126,7 +126,7 @@ in_table p e d k at under = go (class_at p e) refl under
     go None here is = (k, ap (class_at p) (same_class e d (alone (is_class e d) is)) ∙ at)
 
 -- an object of a class is there
-object_of : (h : HeapContents) (n : ℕ) (e : ClassId) → object_class h n ≡ Some e → (x : Object) × (object_at h n ≡ Some x) × (x.class ≡ e)
+pub object_of : (h : HeapContents) (n : ℕ) (e : ClassId) → object_class h n ≡ Some e → (x : Object) × (object_at h n ≡ Some x) × (x.class ≡ e)
 object_of h n e is = go (object_at h n) refl is
   where
     go : (z : Option Object) → object_at h n ≡ z → class_in z ≡ Some e → (x : Object) × (object_at h n ≡ Some x) × (x.class ≡ e)
@@ -323,7 +323,7 @@ module _ (p : Program) (ac : Accept p) where
     root_next n before_aliased k small x l at link y there = by z.0.link refl
       where
         target : (e : ClassId) × (object_class h l.to ≡ Some e) × IsAliased p e
-        target = reached k x l at link
+        target = let g = reached k x l at link in (g.0, g.1, g.2.argument)
 
         z : (w : Object) × (object_at h l.to ≡ Some w) × (w.class ≡ target.0)
         z = object_of h l.to target.0 target.1
@@ -346,12 +346,12 @@ module _ (p : Program) (ac : Accept p) where
     root_aliased (suc n) k small x l at link y there = root_next n (root_aliased n) k small x l at link y there
 
     -- a class of which aliases are given, in the words of the rule
-    aliased_gives : (e : ClassId) (k : Class) → class_at p e ≡ Some k → IsAliased p e → list_any (gives_alias_of k) p.methods.items ≡ true
+    pub aliased_gives : (e : ClassId) (k : Class) → class_at p e ≡ Some k → IsAliased p e → list_any (gives_alias_of k) p.methods.items ≡ true
     aliased_gives e k at g =
         some_passes (gives_alias_of k) p.methods.items g.number.0 g.method g.at
         (ap (λ (r : Option ℕ). is_of_type k (type_at_some g.method.sig r)) g.alias ∙ ap (is_of_type k) g.takes ∙ under_type p e g.type k at g.under)
 
-    aliased_class : (e : ClassId) → IsAliased p e → (k : Class) × (class_at p e ≡ Some k)
+    pub aliased_class : (e : ClassId) → IsAliased p e → (k : Class) × (class_at p e ≡ Some k)
     aliased_class e g = let type = position_class g.number g.method g.position g.type g.at g.takes in in_table p e g.type type.0 type.1 g.under
 
     -- what is linked is of a class whose objects are given as aliases
@@ -543,19 +543,19 @@ module _ (p : Program) (ac : Accept p) where
   -- the operand of which a signature gives an alias is of a class of which aliases are given
   pub aliased_operand : HasLightTexts p → (h : HeapContents) (fr : Frame) → ((bound : ClassId) → IsNotAboveString p bound → FrameFitsClass p bound h fr) → (i : ℕ) (s : Step) (named : MethodId) (m : Method) (j w : ℕ)
       → slice_get (frame_steps p fr) i ≡ Some s → called_method s.action ≡ Some named → method_at p named ≡ Some m → IsOnInstance p h fr.locals s.action (method_at p named)
-      → m.sig.alias ≡ Some j → number_of (operand_of fr.locals s.action j) ≡ Some w → (e : ClassId) × (object_class h w ≡ Some e) × IsAliased p e
+      → m.sig.alias ≡ Some j → number_of (operand_of fr.locals s.action j) ≡ Some w → (e : ClassId) × (object_class h w ≡ Some e) × (g : IsAliased p e) × (g.method ≡ m)
   aliased_operand light h fr keeps i s named m j w here called named_at instance alias number =
       by_value (operand_of fr.locals s.action j) (operand_under h fr c.0 c.2 (keeps c.0 c.2) i s named m j here called named_at instance c.1) number
     where
       c : (d : ClassId) × (type_at m.sig j ≡ Some (types.Obj d)) × IsNotAboveString p d
       c = alias_class light named m j named_at alias
 
-      by_value : (v : Value) → ((k : ℕ) → v ≡ values.Object k → IsUnderAt p c.0 h k) → number_of v ≡ Some w → (e : ClassId) × (object_class h w ≡ Some e) × IsAliased p e
+      by_value : (v : Value) → ((k : ℕ) → v ≡ values.Object k → IsUnderAt p c.0 h k) → number_of v ≡ Some w → (e : ClassId) × (object_class h w ≡ Some e) × (g : IsAliased p e) × (g.method ≡ m)
       by_value values.Nothing under none = absurd (let never : None ≡ Some w = none in cc)
       by_value (values.Object k) under some =
           let same : k ≡ w = (let both : Some k ≡ Some w = some in cc) in
           let class = under w (ap values.Object same) in
-          (class.0, class.1, record { number = named; method = m; at = named_at; position = j; alias = alias; type = c.0; takes = c.1; under = class.2 })
+          (class.0, class.1, record { number = named; method = m; at = named_at; position = j; alias = alias; type = c.0; takes = c.1; under = class.2 }, refl)
       by_value v under none = absurd (let never : None ≡ Some w = none in cc)
 
   module _ (light : HasLightTexts p) (fields : OwnsNoRenewedText p) (h : HeapContents) (links : HasEarlierLinks h) (aliases : LinkedAreAliases p h) (reached : LinksReachAliased p h) (fr : Frame)

@@ -8,6 +8,7 @@ pub mod Finished
 pub mod Linked
 pub mod InSight
 pub mod LinkTargets
+pub mod PassedCalls
 pub mod MustCallMethods
 pub mod UnmetHolders
 pub mod Promised

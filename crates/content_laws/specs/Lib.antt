@@ -1,6 +1,7 @@
 pub mod Going
 pub mod Exits
 pub mod Filled
+pub mod Passing
 pub use Rattle.covering_laws.specs.Accept
 pub use Rattle.covering_laws.specs.AcceptedProgramsConditions
 pub use Rattle.covering_laws.specs.Agreement

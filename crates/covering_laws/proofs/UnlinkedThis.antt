@@ -14,7 +14,7 @@ use Rattle.program_model.specs.declared.program.Program.{Program}
 use Rattle.program_model.specs.Lookups.{class_at, method_at}
 use Rattle.program_model.specs.Overrides.{is_library, is_library_in}
 use Rattle.program_model.specs.SuperTests.{is_under}
-use Rattle.ledger_obligations.specs.AliasCases.{alias_cases_in, alias_cases_of_method, alias_cases_of_override, is_alias_class, is_alias_constructor_in, is_bad_alias_class, is_heavy_super, is_one_final, owning_fields, resets_near}
+use Rattle.ledger_obligations.specs.AliasCases.{alias_cases_in, alias_cases_of_method, alias_cases_of_override, is_alias_class, is_alias_constructor_in, is_bad_alias_class, is_heavy_super, is_one_final, owning_fields, passes_over, resets_near}
 use Rattle.must_call_sets.specs.Overridings.{class_ids, overridings}
 use Rattle.ledger_obligations.specs.Bodies.{constructs, is_constructor_kind, reset_in}
 use Rattle.ownership_rules.specs.Signatures.{is_position, is_present}
@@ -39,7 +39,7 @@ use Rattle.covering_laws.proofs.Bodies.{running_method}
 use Rattle.covering_laws.proofs.Finalizers.{none_at, numbered, parts_empty}
 use Rattle.covering_laws.proofs.GivenAway.{any_at}
 
-passes_one : {X : Type 0} (f : X → Bool) (xs : List X) (x : X) → Contains xs x → f x ≡ true → list_any f xs ≡ true
+pub passes_one : {X : Type 0} (f : X → Bool) (xs : List X) (x : X) → Contains xs x → f x ≡ true → list_any f xs ≡ true
 passes_one f xs x among is = any_at f xs among.0 x (slice_get-get_or xs among.0 x among.1 ∙ ap Some among.2) is
 
 module _ (p : Program) (ac : Accept p) where
@@ -52,7 +52,7 @@ module _ (p : Program) (ac : Accept p) where
       slice_get-map class_with (range_with_len 0 (length p.classes.items)) c.0 ∙ ap (option_map class_with) (numbered (length p.classes.items) c.0 inside)
 
   -- the class is not refused
-  not_bad : (c : ClassId) (k : Class) → class_at p c ≡ Some k → (is_alias_class p k && is_bad_alias_class p c k) ≡ false
+  pub not_bad : (c : ClassId) (k : Class) → class_at p c ≡ Some k → (is_alias_class p k && is_bad_alias_class p c k) ≡ false
   not_bad c k at = not_refused (is_alias_class p k && is_bad_alias_class p c k) refused.BadAlias k.pos (sym (ap (alias_cases_in p c) at) ∙ here)
     where
       classes : flat_map (λ (d : ClassId). alias_cases_in p d (class_at p d)) (class_ids p) ≡ []
@@ -82,7 +82,8 @@ module _ (p : Program) (ac : Accept p) where
           near = and_from (is_position d.sig.reset 0) (is_under p m.class d.class || is_under p d.class m.class) resets (or_left (is_under p m.class d.class) (is_under p d.class m.class) under)
 
           bad : is_bad_alias_class p m.class j ≡ true
-          bad = or_right (not (is_one_final p (owning_fields p j)) || is_heavy_super p j.sup) (list_any (resets_near p m.class) p.methods.items) (any_at (resets_near p m.class) p.methods.items r.0 d reset_at near)
+          bad = or_left (not (is_one_final p (owning_fields p j)) || is_heavy_super p j.sup || list_any (resets_near p m.class) p.methods.items) (list_any (λ (i : MethodId). passes_over p j (method_at p i)) j.methods.items)
+              (or_right (not (is_one_final p (owning_fields p j)) || is_heavy_super p j.sup) (list_any (resets_near p m.class) p.methods.items) (any_at (resets_near p m.class) p.methods.items r.0 d reset_at near))
 
   resets_this : (x : Option Method) → reopens x ≡ true → is_position (reset_in x) 0 ≡ true
   resets_this x opens = (and_parts (not (constructs x)) (is_position (reset_in x) 0) opens).1

@@ -74,3 +74,4 @@ pub use Rattle.value_laws.specs.Thrown
 pub use Rattle.value_laws.specs.Types
 pub use Rattle.value_laws.specs.Values
 pub use Rattle.value_laws.specs.Positions
+pub use Rattle.value_laws.specs.Results

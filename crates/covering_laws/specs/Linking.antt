@@ -1,5 +1,5 @@
 -- Which objects are linked to others.
-use Rattle.std.specs.Prelude.{◌≡◌, ◌⊎◌, ℕ, true, Some}
+use Rattle.std.specs.Prelude.{◌≡◌, ◌⊎◌, ℕ, Bool, true, Some}
 use Rattle.program_model.specs.declared.kinds.ClassId.{ClassId}
 use Rattle.program_model.specs.declared.kinds.MethodId.{MethodId}
 use Rattle.program_model.specs.declared.kinds.VType.TheVariants as types
@@ -41,9 +41,16 @@ pub record IsAliased (p : Program) (e : ClassId) : Type 0 where
   pub takes : type_at method.sig position ≡ Some (types.Obj type)
   pub under : is_under p e type ≡ true
 
--- each object that is linked to another one is linked to one of such a class
+-- Some method or constructor gives objects of the first class as aliases of an argument of the second one: one of the library, or a constructor of the
+-- program, whose class it is then.
+pub record IsAliasedAs (p : Program) (c : ClassId) (by_library : Bool) (e : ClassId) : Type 0 where
+  pub argument : IsAliased p e
+  pub class : GivesClass p argument.method c
+  pub library : is_library p c ≡ by_library
+
+-- each object that is linked to another one is of such a class, and is linked to one of such a class
 abbrev pub LinksReachAliased : Program → HeapContents → Type 0
-LinksReachAliased p h = (k : ℕ) (x : Object) (l : Link) → object_at h k ≡ Some x → x.link ≡ Some l → (e : ClassId) × (object_class h l.to ≡ Some e) × IsAliased p e
+LinksReachAliased p h = (k : ℕ) (x : Object) (l : Link) → object_at h k ≡ Some x → x.link ≡ Some l → (e : ClassId) × (object_class h l.to ≡ Some e) × IsAliasedAs p x.class l.by_library e
 
 -- each object that is linked to another one is of a class whose objects are given as aliases
 abbrev pub LinkedAreAliases : Program → HeapContents → Type 0

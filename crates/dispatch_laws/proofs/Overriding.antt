@@ -14,9 +14,9 @@ use Rattle.program_model.specs.Overrides.{Overriding, are_alike, is_abstract, is
 use Rattle.program_model.specs.SuperTests.{is_class, is_under}
 use Rattle.program_model.specs.Validity.{IsTypedProgram}
 use Rattle.program_model.proofs.HierarchyLaws.{is_under_law}
-use Rattle.agreement.specs.Results.{is_result_under}
+use Rattle.agreement.specs.Results.{is_result_under, throws_no_more}
 use Rattle.agreement.proofs.Elements.{gathered-among}
-use Rattle.agreement.specs.Cases.{are_static_alike, body_cases, class_cases, may_override, throws_no_more}
+use Rattle.agreement.specs.Cases.{are_static_alike, body_cases, class_cases, may_override}
 use Rattle.agreement.specs.Cases as java
 use Rattle.annotation_rules.specs.AliasCases.{alias_cases_in, alias_cases_of_method, alias_cases_of_override, is_same_position}
 use Rattle.agreement.specs.OverrideCases.{asks_for_more, has_other_owning, has_other_result, has_wider_result, is_bad_override, override_cases_of, overrides_first_set, promises_beside_set, promises_less, promises_on_field}

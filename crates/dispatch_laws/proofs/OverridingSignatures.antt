@@ -19,9 +19,8 @@ use Rattle.program_model.specs.SuperTests.{is_under}
 use Rattle.program_model.proofs.HierarchyLaws.{is_under_law}
 use Rattle.java_conversions.specs.Conversions.{fits}
 use Rattle.java_conversions.specs.Types.{is_reference}
-use Rattle.agreement.specs.Results.{is_result_under}
+use Rattle.agreement.specs.Results.{covers, is_checked, is_result_under, may_throw, throws_no_more}
 use Rattle.agreement.proofs.Elements.{contains-cases, contains-none, each-of}
-use Rattle.agreement.specs.Cases.{covers, is_checked, may_throw, throws_no_more}
 use Rattle.annotation_rules.specs.AliasCases.{is_same_position}
 use Rattle.annotation_rules.specs.MustCallSets.{must_of_optional}
 use Rattle.agreement.specs.OverrideCases.{asks_for_more, differ, has_other_owning, keeps, keeps_at, promises_less}

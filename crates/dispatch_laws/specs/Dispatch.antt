@@ -4,8 +4,7 @@ use Rattle.program_model.specs.declared.kinds.MethodKind.TheVariants as methods
 use Rattle.program_model.specs.declared.program.Method.{Method}
 use Rattle.program_model.specs.declared.program.Program.{Program}
 use Rattle.program_model.specs.Overrides.{Overriding, are_alike, are_types}
-use Rattle.agreement.specs.Results.{is_result_under}
-use Rattle.agreement.specs.Cases.{throws_no_more}
+use Rattle.agreement.specs.Results.{is_result_under, throws_no_more}
 use Rattle.annotation_rules.specs.AliasCases.{is_same_position}
 use Rattle.agreement.specs.OverrideCases.{asks_for_more, has_other_owning, has_other_result, has_wider_result, overrides_first_set, promises_beside_set, promises_less, promises_on_field}
 use Rattle.annotation_rules.specs.Overridings.{overridings}

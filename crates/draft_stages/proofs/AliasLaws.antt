@@ -2,9 +2,11 @@
 use Rattle.std.proofs.Common.{◌≡◌, ◌∙◌, ap, sym, refl, ℕ, zero, suc, ◌+◌, ◌<◌, ◌≤◌, get_or, filter, take, Bool, true, false, ◌&&◌, ◌||◌, nat_eq, Option, Some, None, List, [], ◌∷◌, ◌++◌, length, arith}
 use Rattle.std.proofs.lemmas.Grind.{common_steps}
 use Rattle.std.specs.Prelude.{nat_lt, if◌then◌else◌}
+use Rattle.std.specs.List.{list_any}
 use Rattle.ledger_state.specs.declared.object.Object.{Object}
 use Rattle.ledger_state.specs.Contents.{HeapContents}
 use Rattle.ledger_state.specs.Heaps.{has_number, is_reached, link_of, linked_by, object_at, root}
+use Rattle.indexmap.specs.IndexSet.{insert_all, insert_key}
 use Rattle.object_index.specs.declared.index.ObjectIndex.{ObjectIndex}
 use Rattle.object_index.specs.FrameOwners.{list_at, lists_in}
 use Rattle.object_index.specs.ObjectIndexes.{aliases_of, is_alias, is_free, is_indexed}
@@ -126,16 +128,86 @@ either : (a b : Bool) (P : Type 0) → (a ≡ true → P) → (b ≡ true → P)
 either true b P f g e = f refl
 either false b P f g e = g e
 
-pub aliases_next : (index : ObjectIndex) (start ks new list : List ℕ) (i at d : ℕ) → i < length ks → at ≡ get_or ks i d → list ≡ aliases_of index at → new ≡ ks ++ list → AliasesSoFar index start ks i → AliasesSoFar index start new (i + 1)
-aliases_next index start ks new list i at d within is aliases joined so = record {
-  kept = λ k e. ap (λ js. has_number js k) joined ∙ has_first ks list k (so.kept k e);
-  closed = λ r k has alias.
-      let n : suc i ≡ i + 1 = omega arith in
-      either (has_number (take i ks) r) (nat_eq (get_or ks i d) r) (has_number new k ≡ true)
-      (λ e. ap (λ js. has_number js k) joined ∙ has_first ks list k (so.closed r k e alias))
-      (λ e. let same : r ≡ at = grind (arith, common_steps, e, is) in ap (λ js. has_number js k) joined ∙ has_second ks list k (ap (λ js. has_number js k) aliases ∙ ap (λ m. has_number (aliases_of index m) k) (sym same) ∙ alias))
-      (sym (taken_one ks list i r d within) ∙ (λ j. has_number (take (n j) (sym joined j)) r) ∙ has);
-}
+-- Numbers that join others, each once
+
+same_order : (j k : ℕ) → nat_eq j k ≡ true → nat_eq k j ≡ true
+same_order j k e = grind (arith, common_steps, e)
+
+has_last : (ks : List ℕ) (k : ℕ) → has_number (ks ++ k ∷ []) k ≡ true
+has_last ks k = has_second ks (k ∷ []) k own
+  where
+    own : has_number (k ∷ []) k ≡ true
+    own = let self : nat_eq k k ≡ true = grind (arith, common_steps) in ap (λ b. b || false) self
+
+-- a number that is found from its side is there
+found_has : (ks : List ℕ) (k : ℕ) → list_any (nat_eq k) ks ≡ true → has_number ks k ≡ true
+found_has [] k e = absurd (cc)
+found_has (n ∷ ks) k e = go (nat_eq k n) refl e (found_has ks k)
+  where
+    go : (b : Bool) → nat_eq k n ≡ b → (b || list_any (nat_eq k) ks) ≡ true → (list_any (nat_eq k) ks ≡ true → has_number ks k ≡ true) → (nat_eq n k || has_number ks k) ≡ true
+    go true is any further = ap (λ b. b || has_number ks k) (same_order k n is)
+    go false is any further = ap (λ b. nat_eq n k || b) (further any) ∙ or_true (nat_eq n k)
+
+-- the others stand first, and the numbers are there
+record Joined (ks xs js : List ℕ) : Type 0 where
+  pub rest : List ℕ
+  pub is : js ≡ ks ++ rest
+  pub has : (k : ℕ) → has_number xs k ≡ true → has_number js k ≡ true
+
+append_nil : (ks : List ℕ) → ks ++ [] ≡ ks
+append_nil [] = refl
+append_nil (k ∷ ks) = ap (λ js. k ∷ js) (append_nil ks)
+
+append_both : (ks js is : List ℕ) → (ks ++ js) ++ is ≡ ks ++ (js ++ is)
+append_both [] js is = refl
+append_both (k ∷ ks) js is = ap (λ xs. k ∷ xs) (append_both ks js is)
+
+-- one number
+joined_one : (ks : List ℕ) (x : ℕ) → Joined ks (x ∷ []) (insert_key nat_eq ks x)
+joined_one ks x = go (list_any (nat_eq x) ks) refl
+  where
+    own : (js : List ℕ) → has_number js x ≡ true → (k : ℕ) → has_number (x ∷ []) k ≡ true → has_number js k ≡ true
+    own js has k e = here (nat_eq x k) refl e
+      where
+        here : (b : Bool) → nat_eq x k ≡ b → (b || false) ≡ true → has_number js k ≡ true
+        here true is any = let same : x ≡ k = grind (arith, common_steps, is) in ap (has_number js) (sym same) ∙ has
+        here false is any = absurd (cc)
+
+    go : (b : Bool) → list_any (nat_eq x) ks ≡ b → Joined ks (x ∷ []) (if b then ks else ks ++ x ∷ [])
+    go true is = record { rest = []; is = sym (append_nil ks); has = own ks (found_has ks x is) }
+    go false is = record { rest = x ∷ []; is = refl; has = own (ks ++ x ∷ []) (has_last ks x) }
+
+joined_all : (ks xs : List ℕ) → Joined ks xs (insert_all nat_eq ks xs)
+joined_all ks [] = record { rest = []; is = sym (append_nil ks); has = λ k e. absurd (cc) }
+joined_all ks (x ∷ xs) = go (joined_one ks x) (joined_all (insert_key nat_eq ks x) xs)
+  where
+    go : Joined ks (x ∷ []) (insert_key nat_eq ks x) → Joined (insert_key nat_eq ks x) xs (insert_all nat_eq ks (x ∷ xs)) → Joined ks (x ∷ xs) (insert_all nat_eq ks (x ∷ xs))
+    go one all = record {
+      rest = one.rest ++ all.rest;
+      is = all.is ∙ ap (λ js. js ++ all.rest) one.is ∙ append_both ks one.rest all.rest;
+      has = λ k e.
+          either (nat_eq x k) (has_number xs k) (has_number (insert_all nat_eq ks (x ∷ xs)) k ≡ true)
+          (λ is. ap (λ js. has_number js k) all.is ∙ has_first (insert_key nat_eq ks x) all.rest k (one.has k (ap (λ b. b || false) is)))
+          (all.has k) e;
+    }
+
+-- the numbers that join are there, and those that were there
+pub joined_has : (ks xs js : List ℕ) → js ≡ insert_all nat_eq ks xs → (k : ℕ) → has_number xs k ≡ true → has_number js k ≡ true
+joined_has ks xs js is k e = ap (λ is'. has_number is' k) is ∙ (joined_all ks xs).has k e
+
+pub aliases_next : (index : ObjectIndex) (start ks new list : List ℕ) (i at d : ℕ) → i < length ks → at ≡ get_or ks i d → list ≡ aliases_of index at → new ≡ insert_all nat_eq ks list → AliasesSoFar index start ks i → AliasesSoFar index start new (i + 1)
+aliases_next index start ks new list i at d within is aliases joined so = go (joined_all ks list)
+  where
+    go : Joined ks list (insert_all nat_eq ks list) → AliasesSoFar index start new (i + 1)
+    go all = record {
+      kept = λ k e. ap (λ js. has_number js k) (joined ∙ all.is) ∙ has_first ks all.rest k (so.kept k e);
+      closed = λ r k has alias.
+          let n : suc i ≡ i + 1 = omega arith in
+          either (has_number (take i ks) r) (nat_eq (get_or ks i d) r) (has_number new k ≡ true)
+          (λ e. ap (λ js. has_number js k) (joined ∙ all.is) ∙ has_first ks all.rest k (so.closed r k e alias))
+          (λ e. let same : r ≡ at = grind (arith, common_steps, e, is) in ap (λ js. has_number js k) joined ∙ all.has k (ap (λ js. has_number js k) aliases ∙ ap (λ m. has_number (aliases_of index m) k) (sym same) ∙ alias))
+          (sym (taken_one ks all.rest i r d within) ∙ (λ j. has_number (take (n j) (sym (joined ∙ all.is) j)) r) ∙ has);
+    }
 
 take_past : (n : ℕ) (xs : List ℕ) → length xs ≤ n → take n xs ≡ xs
 take_past zero [] low = refl

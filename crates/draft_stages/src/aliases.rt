@@ -1,10 +1,12 @@
 //! The objects that have some roots.
 
-ghost use Rattle.std.specs.Prelude.{◌≡◌, ◌++◌, ℕ, true, filter, IfOk, IfSome, OnOk};
+ghost use Rattle.std.specs.Prelude.{◌≡◌, ◌++◌, ℕ, nat_eq, true, filter, IfOk, IfSome, OnOk};
 ghost use Rattle.draft_stages.specs.Stages.{AliasesAmong, AllWithRoots, IndexedRest, saved_numbers};
+ghost use Rattle.indexmap.specs.IndexSet.{insert_all};
 ghost use Rattle.ledger_state.specs.Heaps.{has_number, is_reached};
 
 use heap_drafts::{SavedObject, rising};
+use indexmap::IndexSet;
 use ledger_state::Heap;
 use object_index::ObjectIndex;
 use rlc_base::NoMemory;
@@ -32,21 +34,49 @@ pub(crate) fn add_saved(saved: &[SavedObject], into: &mut Vec<u64>) -> Result<()
     Ok(())
 }
 
-// Puts the objects that the index has for each of the first ones behind them, and those for these, until there are none. Says whether
-// that is all.
-fn add_aliases(index: &ObjectIndex, among: &mut Vec<u64>) -> Result<bool, NoMemory>
-    ensures all { OnOk result ((k : ℕ) → has_number among.old.items k ≡ true → has_number among.new.items k ≡ true) }
-    ensures closed { IfOk result (λ b. b ≡ true → AliasesAmong index.now among.new.items) }
+// Puts those of the numbers behind the others that are not among them.
+fn add_numbers(numbers: &[u64], among: &mut IndexSet<u64>) -> Result<(), NoMemory>
+    ensures { OnOk result (among.new.keys ≡ insert_all nat_eq among.old.keys numbers.now) }
+{
+    'each: for number in numbers {
+        among.insert(*number)?;
+    }
+    Ok(())
+}
+
+// Puts the objects that the index has for each of the first ones behind them, and those for these, each once, until there are none. Says
+// whether that is all.
+fn add_aliases(index: &ObjectIndex, among: &mut IndexSet<u64>) -> Result<bool, NoMemory>
+    ensures all { OnOk result ((k : ℕ) → has_number among.old.keys k ≡ true → has_number among.new.keys k ≡ true) }
+    ensures closed { IfOk result (λ b. b ≡ true → AliasesAmong index.now among.new.keys) }
 {
     'places: for place in 0..usize::MAX {
         if place >= among.len() {
             return Ok(true);
         }
-        let at = among[place];
+        let at = among.as_slice()[place];
         let aliases = index.aliases_of(at);
-        among.extend_from_slice(aliases)?;
+        add_numbers(aliases, among)?;
     }
     Ok(false)
+}
+
+// The numbers, and those of all objects that the index has for them, each once, unless there are too many.
+fn with_aliases(
+    alloc: Global,
+    index: &ObjectIndex,
+    numbers: &[u64],
+) -> Result<Option<Vec<u64>>, NoMemory>
+    ensures all { IfOk result (λ o. IfSome o (λ v. (k : ℕ) → has_number numbers.now k ≡ true → has_number v.items k ≡ true)) }
+    ensures closed { IfOk result (λ o. IfSome o (λ v. AliasesAmong index.now v.items)) }
+{
+    let mut among = IndexSet::new(alloc);
+    add_numbers(numbers, &mut among)?;
+    if !add_aliases(index, &mut among)? {
+        return Ok(None);
+    }
+    let all = Vec::from_slice(alloc, among.as_slice())?;
+    Ok(Some(all))
 }
 
 // Those of the objects that have one of the roots.
@@ -67,7 +97,31 @@ fn with_roots(
     Ok(found)
 }
 
-/// The objects that have one of the roots, by their numbers, where the index knows of all that were not saved to what they are linked.
+// The objects that have one of the roots, by their numbers, where the index knows of all that were not saved to what they are linked.
+fn objects_with(
+    alloc: Global,
+    heap: &Heap,
+    index: &ObjectIndex,
+    roots: &[u64],
+    saved: &[SavedObject],
+) -> Result<Option<Vec<u64>>, NoMemory>
+    requires { IndexedRest index.now saved.now heap.now }
+    ensures { IfOk result (λ o. IfSome o (λ v. AllWithRoots heap.now roots.now v.items)) }
+{
+    let mut first = Vec::from_slice(alloc, roots)?;
+    add_saved(saved, &mut first)?;
+    let all = with_aliases(alloc, index, &first)?;
+    match all {
+        None => Ok(None),
+        Some(numbers) => {
+            let once = rising(alloc, numbers)?;
+            let found = with_roots(alloc, heap, roots, &once)?;
+            Ok(Some(found))
+        }
+    }
+}
+
+/// The same; where there is no root, none is looked for.
 pub(crate) fn reached_objects(
     alloc: Global,
     heap: &Heap,
@@ -78,12 +132,8 @@ pub(crate) fn reached_objects(
     requires { IndexedRest index.now saved.now heap.now }
     ensures { IfOk result (λ o. IfSome o (λ v. AllWithRoots heap.now roots.now v.items)) }
 {
-    let mut among = Vec::from_slice(alloc, roots)?;
-    add_saved(saved, &mut among)?;
-    if !add_aliases(index, &mut among)? {
-        return Ok(None);
+    if roots.is_empty() {
+        return Ok(Some(Vec::new(alloc)));
     }
-    let once = rising(alloc, among)?;
-    let found = with_roots(alloc, heap, roots, &once)?;
-    Ok(Some(found))
+    objects_with(alloc, heap, index, roots, saved)
 }

@@ -16,8 +16,8 @@ use Rattle.program_model.specs.SuperTests.{is_under}
 use Rattle.program_model.specs.Validity.{IsTypedProgram}
 use Rattle.program_model.proofs.HierarchyLaws.{is_under_law}
 use Rattle.java_control.specs.Exceptions.{unchecked}
-use Rattle.accepted_programs.specs.Cases.{may_throw, throws_no_more}
-use Rattle.accepted_programs.specs.Cases as overriding
+use Rattle.accepted_programs.specs.Results.{may_throw, throws_no_more}
+use Rattle.accepted_programs.specs.Results as overriding
 use Rattle.accepted_programs.specs.Coverage.{CoversItsExceptions, is_checked, is_declared, is_undeclared}
 use Rattle.accepted_programs.specs.Exceptions.{throws_in}
 use Rattle.ledger_calls.specs.Calls.{leaves_by}

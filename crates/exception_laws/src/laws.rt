@@ -12,7 +12,7 @@ ghost use Rattle.program_model.specs.Lookups.{body_at, method_at};
 ghost use Rattle.program_model.specs.SuperTests.{is_under};
 ghost use Rattle.program_model.specs.Validity.{IsTypedProgram};
 ghost use Rattle.accepted_programs.specs.Accept.{Accept};
-ghost use Rattle.accepted_programs.specs.Cases.{throws_no_more};
+ghost use Rattle.accepted_programs.specs.Results.{throws_no_more};
 ghost use Rattle.accepted_programs.specs.Conditions.{HasWholeLibrary};
 ghost use Rattle.accepted_programs.specs.Coverage.{CoversItsExceptions, is_undeclared};
 ghost use Rattle.accepted_programs.specs.Exceptions.{throws_clause};

@@ -1,7 +1,8 @@
 -- The initialisers of fields (JLS 8.3.2). That of an instance field runs in each constructor, as the assignment `this.f = e`; that
 -- of a static field is a value which the table keeps.
-use Rattle.std.specs.Prelude.{true, cond, Option, Some, None, is_some, List, [], ◌∷◌, ◌++◌, option_map}
+use Rattle.std.specs.Prelude.{true, false, cond, Option, Some, None, is_some, List, [], ◌∷◌, ◌++◌, option_map}
 use Rattle.std.specs.List.{flat_map}
+use Rattle.rlc_base.specs.declared.code.Code.TheVariants as codes_of
 use Rattle.rlc_base.specs.declared.faults.Refusal.{Refusal}
 use Rattle.program_model.specs.declared.kinds.ClassId.{ClassId}
 use Rattle.program_model.specs.declared.kinds.FieldId.{FieldId}
@@ -9,10 +10,11 @@ use Rattle.program_model.specs.declared.program.Field.{Field}
 use Rattle.program_model.specs.declared.program.Program.{Program}
 use Rattle.program_model.specs.Lookups.{field_at}
 use Rattle.java_syntax.specs.ExpressionTrees.{ExprTree, expr_of}
+use Rattle.java_annotations.specs.InitialValues.{value_of}
 use Rattle.source_classes.specs.ClassDeclarationsMembers.{WrittenField}
 use Rattle.java_typed_trees.specs.declared.facts.Answer.{Answer}
 use Rattle.java_typed_trees.specs.declared.shapes.TargetShape.TheVariants as targets
-use Rattle.java_typed_trees.specs.Answers.{value_at}
+use Rattle.java_typed_trees.specs.Answers.{refused, value_at}
 use Rattle.java_typed_trees.specs.ExpressionTrees.{expressions}
 use Rattle.java_typed_trees.specs.ExpressionTrees as typed
 use Rattle.java_typed_trees.specs.Settling.{own_cases, tree_in}
@@ -23,7 +25,6 @@ use Rattle.java_member_rules.specs.Names.{implied_this}
 use Rattle.java_typed_expressions.specs.Surroundings.{Surroundings}
 use Rattle.java_typed_expressions.specs.Cases.{value_cases}
 use Rattle.java_typed_expressions.specs.Typings.{tree, value_facts}
-use Rattle.source_classes.specs.StatementCases.{unless}
 use Rattle.source_classes.specs.Members.{Environment, numbered_fields, surroundings_in}
 use Rattle.source_classes.specs.SourceClasses.{SourceClass}
 
@@ -71,17 +72,29 @@ initializers_cases e c covered = flat_map (cases_of_field (initializer_surroundi
 
 -- ---- static fields
 
--- the initialiser of a static field has a value that the table keeps, or the field cannot take it
-abbrev pub static_case_of : Field → Option ExprTree → List Refusal
-static_case_of x None = []
-static_case_of x (Some e) = cond x.is_static (unless (is_some x.initial) x.pos) []
+-- where the initialiser of a static field stands
+abbrev pub static_surroundings : Environment → SourceClass → Surroundings
+static_surroundings e c = surroundings_in e c false None [] []
 
-abbrev pub static_case : Option Field → Option ExprTree → List Refusal
-static_case None e = []
-static_case (Some x) e = static_case_of x e
+-- these refusals; and where there is none, that of a field of which the table has no value: so none is lost
+abbrev pub or_lost : Field → List Refusal → List Refusal
+or_lost x [] = cond (is_some x.initial) [] (refused codes_of.Mismatch x.pos)
+or_lost x (r ∷ rs) = r ∷ rs
 
-abbrev pub static_cases_of_field : Program → FieldId × WrittenField → List Refusal
-static_cases_of_field p w = static_case (field_at p w.0) (initializer_of w.1)
+-- that of a static field is a literal, with `-` before a number allowed, and the field takes it as an instance field does
+abbrev pub static_initializer_cases : Surroundings → FieldId → Field → ExprTree → List Refusal
+static_initializer_cases s f x e = cond (is_some (value_of e)) (or_lost x (initializing_cases s f x e)) (refused codes_of.Mismatch x.pos)
+
+abbrev pub static_case_of : Surroundings → FieldId → Field → Option ExprTree → List Refusal
+static_case_of s f x None = []
+static_case_of s f x (Some e) = cond x.is_static (static_initializer_cases s f x e) []
+
+abbrev pub static_case : Surroundings → FieldId → Option Field → Option ExprTree → List Refusal
+static_case s f None e = []
+static_case s f (Some x) e = static_case_of s f x e
+
+abbrev pub static_cases_of_field : Surroundings → FieldId × WrittenField → List Refusal
+static_cases_of_field s w = static_case s w.0 (field_at s.context.program w.0) (initializer_of w.1)
 
 abbrev pub static_cases : Environment → SourceClass → List Refusal
-static_cases e c = flat_map (static_cases_of_field e.program) (numbered_fields e.program c)
+static_cases e c = flat_map (static_cases_of_field (static_surroundings e c)) (numbered_fields e.program c)

@@ -20,7 +20,7 @@ use source_classes::{
 use std::alloc::Global;
 
 // The assignment of its initialiser to the field, as a statement.
-fn initializing_statement(
+pub(crate) fn initializing_statement(
     alloc: Global,
     scope: &BodyScope,
     refusals: &mut Vec<Refusal>,

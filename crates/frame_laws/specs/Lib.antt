@@ -34,3 +34,4 @@ pub use Rattle.ownership_rules.specs.SmallActions
 pub use Rattle.agreement.specs.Starts
 pub use Rattle.fact_laws.specs.StepTargets
 pub use Rattle.fact_laws.specs.Positions
+pub use Rattle.agreement.specs.Results

@@ -1,1 +1,3 @@
+pub mod LaterStops
 pub mod PlaceLaws
+pub use Rattle.source_files.proofs.LaterCounts

@@ -28,15 +28,15 @@ get_behind [] name behind = refl
 get_behind (first ∷ before) name behind = get_behind before name behind
 
 -- the place is one of the names'
-reached_inside : (told : Option Contents) (names : List (List ℕ)) (at : ℕ) (name : List ℕ) (texts : List (List ℕ)) → Reaches told names at name texts → at < length names
-reached_inside told names at name texts r =
+reached_inside : (told : Option Contents) (held : ℕ) (names : List (List ℕ)) (at : ℕ) (name : List ℕ) (texts : List (List ℕ)) → Reaches told held names at name texts → at < length names
+reached_inside told held names at name texts r =
     let here : length r.before ≡ at = as_many told r.before texts r.read ∙ r.count in
     let found : slice_get (r.before ++ name ∷ r.behind) at ≡ Some name =
     subst (λ (n : ℕ). slice_get (r.before ++ name ∷ r.behind) n ≡ Some name) here (get_behind r.before name r.behind) in
     slice_get_within names at name (subst (λ (all : List (List ℕ)). slice_get all at ≡ Some name) (sym r.split) found)
 
-pub stopped_inside : (told : Option Contents) (names : List (List ℕ)) (c : Counts) (stop : ReadingStop) → IsReading {A = Global} told names c (Err stop) → IsInside (length names) stop
-stopped_inside told names c (stops.Failed at) (name, texts, reached, rose) = reached_inside told names at name texts reached
-stopped_inside told names c (stops.TooBig at) (name, texts, reached, past, none) = reached_inside told names at name texts reached
-stopped_inside told names c (stops.TooMuch at) (name, texts, reached, past, none) = reached_inside told names at name texts reached
-stopped_inside told names c stops.NoMemory none = tt
+pub stopped_inside : (told : Option Contents) (held : ℕ) (names : List (List ℕ)) (c : Counts) (stop : ReadingStop) → IsReading {A = Global} told held names c (Err stop) → IsInside (length names) stop
+stopped_inside told held names c (stops.Failed at) (name, texts, reached, rose) = reached_inside told held names at name texts reached
+stopped_inside told held names c (stops.TooBig at) (name, texts, reached, past, none) = reached_inside told held names at name texts reached
+stopped_inside told held names c (stops.TooMuch at) (name, texts, reached, past, none) = reached_inside told held names at name texts reached
+stopped_inside told held names c stops.NoMemory none = tt

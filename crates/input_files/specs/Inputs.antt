@@ -1,5 +1,5 @@
 -- What reading the files of a command comes to.
-use Rattle.std.specs.Prelude.{◌≡◌, ◌<◌, ◌≤◌, ℕ, Option, Some, None, List, slice_get, Err}
+use Rattle.std.specs.Prelude.{◌≡◌, ◌+◌, ◌<◌, ◌≤◌, ℕ, Option, Some, None, List, slice_get, Err}
 use Rattle.std.specs.declared.alloc.Global.{Global}
 use Rattle.outside.specs.Files.{Contents}
 use Rattle.rlc_base.specs.declared.code.Code.{Code}
@@ -30,16 +30,16 @@ IsStopLine names (stops.TooBig at) answer = IsLimitLine refused.FileTooBig names
 IsStopLine names (stops.TooMuch at) answer = IsLimitLine refused.TooMuchText names at answer
 IsStopLine names stops.NoMemory answer = ⊥
 
--- reading the files stopped, and this is the answer
-pub record IsStopped (told : Option Contents) (names : List (List ℕ)) (c : Counts) (answer : Answer) : Type 0 where
+-- reading the files stopped, where so many bytes were held before, and this is the answer
+pub record IsStopped (told : Option Contents) (held : ℕ) (names : List (List ℕ)) (c : Counts) (answer : Answer) : Type 0 where
   pub stop : ReadingStop
-  pub cause : IsReading {A = Global} told names c (Err stop)
+  pub cause : IsReading {A = Global} told held names c (Err stop)
   pub line : IsStopLine names stop answer
 
--- the texts of the files, none of which is too long; or the answer where reading them stopped
-abbrev pub IsInputReading : Option Contents → List (List ℕ) → Counts → declared.ReadOutcome → Type 0
-IsInputReading told names c (declared.TheVariants.Texts texts) = AreContents told names texts.items × (total_of texts.items ≤ max_text) × CountsNoFault c
-IsInputReading told names c (declared.TheVariants.Answered answer) = IsStopped told names c answer
+-- the texts of the files, none of which is too long; or the answer where reading them stopped. So many bytes were held before
+abbrev pub IsInputReading : Option Contents → ℕ → List (List ℕ) → Counts → declared.ReadOutcome → Type 0
+IsInputReading told held names c (declared.TheVariants.Texts texts) = AreContents told names texts.items × (held + total_of texts.items ≤ max_text) × CountsNoFault c
+IsInputReading told held names c (declared.TheVariants.Answered answer) = IsStopped told held names c answer
 
 -- the words name more than 256 files: the answer has the 257th; or they name fewer
 abbrev pub IsTooMany : List (List ℕ) → Option Answer → Type 0

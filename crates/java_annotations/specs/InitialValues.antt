@@ -8,23 +8,13 @@ use Rattle.java_syntax.specs.ExpressionTrees as expressions
 use Rattle.java_literals.specs.declared.values.LiteralValue.{LiteralValue}
 use Rattle.java_literals.specs.declared.values.LiteralValue.TheVariants as values
 use Rattle.java_literals.specs.Values.{literal_value}
+use Rattle.java_operator_rules.specs.Literals.{literal_in}
 use Rattle.java_constants.specs.Arithmetic.{negate}
 use Rattle.program_model.specs.declared.kinds.Literal.{Literal}
 use Rattle.program_model.specs.declared.kinds.Literal.TheVariants as literals
 use Rattle.program_model.specs.declared.kinds.OperandType.TheVariants as operands
 use Rattle.program_model.specs.declared.kinds.VType.{VType}
 use Rattle.program_model.specs.InitialValues.{FitsField}
-
--- a literal by itself; the decimal 2147483648, and 9223372036854775808 of type long, stand under a minus alone (JLS 3.10.1)
-abbrev pub value_alone : LiteralValue → Option Literal
-value_alone (values.Int n) = Some (literals.Number n)
-value_alone (values.Long n) = Some (literals.Number n)
-value_alone values.IntLimit = None
-value_alone values.LongLimit = None
-value_alone (values.Character c) = Some (literals.Character c)
-value_alone (values.Boolean b) = Some (literals.Boolean b)
-value_alone values.Text = Some literals.Text
-value_alone values.Null = Some literals.Null
 
 -- a number under a minus
 abbrev pub value_negated : LiteralValue → Option Literal
@@ -47,9 +37,9 @@ value_under prefixes.Plus e = None
 value_under prefixes.Not e = None
 value_under prefixes.Complement e = None
 
--- the value of an initialiser that is a literal, or a number under a minus
+-- the value of an initialiser that is a literal, as a typed body keeps it, or a number under a minus
 abbrev pub value_of : ExprTree → Option Literal
-value_of (expressions.Literal text pos) = option_and_then value_alone (literal_value text)
+value_of (expressions.Literal text pos) = option_map literal_in (literal_value text)
 value_of (expressions.Prefix operator e pos) = value_under operator e
 value_of e = None
 
@@ -58,7 +48,8 @@ abbrev pub written_value : Option expr.Expr → Option Literal
 written_value e = option_and_then value_of (option_map expr_of e)
 
 -- a static field of the type begins with the value that is written, where the type has it, and else with its default value
--- (JLS 4.12.5). An initialiser of another form is refused where initialisers are typed
+-- (JLS 4.12.5). Which values it may take (JLS 5.2) is asked where initialisers are typed, and an initialiser of another form
+-- is refused there
 abbrev pub IsInitial : VType → Option Literal → Option Literal → Type 0
 IsInitial t written None = (l : Literal) → written ≡ Some l → FitsField t l → ⊥
 IsInitial t written (Some l) = (written ≡ Some l) × FitsField t l

@@ -2,26 +2,14 @@
 
 ghost use Rattle.std.specs.Prelude.{◌≡◌};
 ghost use Rattle.java_syntax.specs.ExpressionTrees.{expr_of};
-ghost use Rattle.java_annotations.specs.InitialValues.{IsInitial, value_alone, value_negated, value_of, value_under, value_under_minus, written_value};
+ghost use Rattle.java_annotations.specs.InitialValues.{IsInitial, value_negated, value_of, value_under, value_under_minus, written_value};
 
-use initial_values::fits_field;
+use crate::field_values::fits_field;
 use java_constants::negate;
 use java_literals::{LiteralValue, literal_value};
+use java_operator_rules::literal_in;
 use java_syntax::{Expr, PrefixOperator};
 use program_model::{Literal, OperandType, VType};
-
-fn value_alone(literal: LiteralValue) -> Option<Literal>
-    ensures { result ≡ value_alone literal }
-{
-    match literal {
-        LiteralValue::Int(n) | LiteralValue::Long(n) => Some(Literal::Number(n)),
-        LiteralValue::IntLimit | LiteralValue::LongLimit => None,
-        LiteralValue::Character(c) => Some(Literal::Character(c)),
-        LiteralValue::Boolean(b) => Some(Literal::Boolean(b)),
-        LiteralValue::Text => Some(Literal::Text),
-        LiteralValue::Null => Some(Literal::Null),
-    }
-}
 
 // The value of a number under a minus.
 fn value_negated(literal: LiteralValue) -> Option<Literal>
@@ -60,14 +48,15 @@ fn value_under(operator: PrefixOperator, e: &Expr) -> Option<Literal>
     }
 }
 
-/// The value of an expression that is a literal, or a number under a minus; none of another one.
+/// The value of an expression that is a literal, or a number under a minus; none of another one. Whether it may stand where it
+/// does is asked where initialisers are typed.
 pub fn value_of(e: &Expr) -> Option<Literal>
     ensures { result ≡ value_of (expr_of e.now) }
 {
     match e {
         Expr::Literal { text, .. } => match literal_value(text.bytes()) {
             None => None,
-            Some(literal) => value_alone(literal),
+            Some(literal) => Some(literal_in(literal)),
         },
         Expr::Prefix {
             operator,
@@ -89,7 +78,7 @@ pub fn written_value(initializer: &Option<Expr>) -> Option<Literal>
 }
 
 /// The value that a static field of the type begins with where this value is written behind its `=`: none where the type
-/// has it not, or where no value is written.
+/// has it not, or where no value is written. Both are refused where initialisers are typed.
 pub fn initial_value(vtype: VType, written: Option<Literal>) -> Option<Literal>
     ensures { IsInitial vtype written result }
 {

@@ -2,6 +2,7 @@
 #![tactic(auto)]
 
 mod annotations;
+mod field_values;
 mod forms;
 mod initial;
 mod kinds;

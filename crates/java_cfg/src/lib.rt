@@ -12,4 +12,7 @@ mod small_actions;
 pub use arc::Arc;
 pub use build::build_graph;
 pub use graph::Graph;
-pub use limits::{MAX_NODES, MAX_OWNING_FIELDS, MAX_TEMPS, MAX_VARIABLES, method_place};
+pub use limits::{
+    MAX_NODES, MAX_OWNING_FIELDS, MAX_TEMPS, MAX_VARIABLES, method_place, owning_count,
+    variable_count,
+};

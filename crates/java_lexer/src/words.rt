@@ -1,5 +1,5 @@
-ghost use Rattle.std.specs.Prelude.{◌≡◌, map};
-ghost use Rattle.std.specs.List.{list_any};
+ghost use Rattle.std.specs.Prelude.{◌≡◌, map, nat_eq};
+ghost use Rattle.std.specs.List.{list_any, starts_with};
 ghost use Rattle.std.specs.Str.{bytes_eq};
 ghost use Rattle.java_lexer.specs.Words.{is_listed, texts_of, classes_of, meanings_of, reserved_word_rows, separator_rows, operator_rows, reserved_words, left_out_words, value_words, separators, operators, reserved_word_classes, separator_classes, operator_classes, reserved_word_meanings, operator_meanings, class_in, meaning_in, longest_listed};
 
@@ -226,13 +226,23 @@ fn is_in(table: &[Row], word: &[u8]) -> bool
     false
 }
 
+/// Whether the text begins with the word. The first bytes alone tell nearly all words of a table apart.
+fn begins_with(text: &[u8], word: &[u8]) -> bool
+    ensures { result ≡ starts_with nat_eq text.now word.now }
+{
+    match (text.first(), word.first()) {
+        (Some(given), Some(wanted)) if given != wanted => false,
+        _ => text.starts_with(word),
+    }
+}
+
 /// The length of the longest word of the table that the text begins with, and 0 where none does.
 fn longest_listed(table: &[Row], text: &[u8]) -> usize
     ensures { result ≡ longest_listed (texts_of (map (λ row. (row.0.now, row.1, row.2)) table.now)) text.now }
 {
     let mut longest = 0;
     for row in table {
-        if text.starts_with(row.0) {
+        if begins_with(text, row.0) {
             longest = longest.max(row.0.len());
         }
     }

@@ -8,7 +8,9 @@ use java_typed_trees::{Answer, Shape, constant_at, mismatch};
 use program_model::{Literal, Primitive, VType};
 use rlc_base::Pos;
 
-fn literal_in(value: LiteralValue) -> Literal
+/// The literal, as a typed body keeps it: the decimal 2^31 and 2^63 wrap to the least value of their type, which a minus leaves as
+/// it is.
+pub fn literal_in(value: LiteralValue) -> Literal
     ensures { result ≡ literal_in value }
 {
     match value {

@@ -1,6 +1,7 @@
 -- Which of several methods or constructors a call means (JLS 15.12.2).
 use Rattle.std.specs.Prelude.{Bool, false, ◌&&◌, Option, Some, None, List, [], ◌∷◌, filter, length, nat_eq, zip}
 use Rattle.std.specs.List.{find, list_all}
+use Rattle.std.specs.Option.{option_or}
 use Rattle.program_model.specs.declared.kinds.MethodId.{MethodId}
 use Rattle.program_model.specs.declared.kinds.VType.{VType}
 use Rattle.program_model.specs.declared.program.Method.{Method}
@@ -8,7 +9,7 @@ use Rattle.program_model.specs.declared.program.ParamSig.{ParamSig}
 use Rattle.program_model.specs.declared.program.Program.{Program}
 use Rattle.program_model.specs.Lookups.{method_at}
 use Rattle.java_conversions.specs.Conversions.{fits}
-use Rattle.class_members.specs.Results.{is_result_under}
+use Rattle.class_members.specs.Results.{is_result_under, throws_no_more}
 use Rattle.java_overloads.specs.declared.choices.Choice.{Choice}
 use Rattle.java_overloads.specs.declared.choices.Choice.TheVariants as choices
 
@@ -55,9 +56,18 @@ gives_under p _ _ = false
 abbrev pub is_preferred : Program → List MethodId → MethodId → Bool
 is_preferred p all m = list_all (λ n. gives_under p (method_at p m) (method_at p n)) all
 
--- the first that is preferred to all others (JLS 15.12.2.5)
+abbrev pub throws_under : Program → Option Method → Option Method → Bool
+throws_under p (Some m) (Some n) = throws_no_more p m n
+throws_under p _ _ = false
+
+-- `m` declares no checked exception that one of these does not
+abbrev pub throws_least : Program → List MethodId → MethodId → Bool
+throws_least p all m = list_all (λ n. throws_under p (method_at p m) (method_at p n)) all
+
+-- the first of those preferred to all others whose throws clause is the least, as a call throws only what all of them declare;
+-- where there is none, the first that is preferred (JLS 15.12.2.5)
 abbrev pub preferred : Program → List MethodId → Option MethodId
-preferred p all = find (is_preferred p all) all
+preferred p all = option_or (find (λ m. is_preferred p all m && throws_least p all m) all) (find (is_preferred p all) all)
 
 -- ---- the choice
 

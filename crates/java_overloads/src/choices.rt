@@ -30,7 +30,8 @@ fn choice_in(found: Option<MethodId>) -> Choice
 }
 
 /// Which of these applicable methods or constructors is meant: the most specific (JLS 15.12.2.5), if there is one. Of several
-/// with one list of parameter types it is the first whose result is a subtype of all others' results.
+/// with one list of parameter types it is one whose result is a subtype of all others' results: the first whose throws clause is
+/// the least, else the first.
 pub fn choice_among(alloc: Global, p: &Program, all: &[MethodId]) -> Result<Choice, NoMemory>
     ensures { IfOk result (λ x. x ≡ choice_among p.now all.now) }
 {
@@ -43,9 +44,9 @@ pub fn choice_among(alloc: Global, p: &Program, all: &[MethodId]) -> Result<Choi
 }
 
 /// Which of these methods or constructors a call with arguments of these types means: the most specific (JLS 15.12.2.5) of
-/// those that are applicable by strict invocation (JLS 15.12.2.2). Of several with one list of parameter types it is the
-/// first whose result is a subtype of all others' results. The candidates are members of one class, as it inherits them, or
-/// its constructors.
+/// those that are applicable by strict invocation (JLS 15.12.2.2). Of several with one list of parameter types it is one
+/// whose result is a subtype of all others' results: the first whose throws clause is the least, else the first. The
+/// candidates are members of one class, as it inherits them, or its constructors.
 #[tactic(auto, using(crate::proofs::ChoiceLaws::choice_is_choice))]
 pub fn choose(
     alloc: Global,

@@ -1,7 +1,7 @@
 -- Catch clauses (JLS 14.20).
-use Rattle.std.specs.Prelude.{◌++◌, ◌||◌, Bool, true, false, cond, Option, Some, None, List, [], ◌∷◌, map}
+use Rattle.std.specs.Prelude.{◌++◌, ◌&&◌, ◌||◌, Bool, true, false, cond, ℕ, Option, Some, None, List, [], ◌∷◌, map, nat_le}
 use Rattle.std.specs.Option.{is_some, option_map}
-use Rattle.std.specs.List.{flat_map}
+use Rattle.std.specs.List.{count_by, flat_map, list_all}
 use Rattle.rlc_base.specs.declared.place.Pos.{Pos}
 use Rattle.rlc_base.specs.declared.faults.Refusal.{Refusal}
 use Rattle.program_model.specs.declared.kinds.ClassId.{ClassId}
@@ -51,9 +51,26 @@ abbrev pub has_alternative : List Name → Bool
 has_alternative [] = false
 has_alternative (n ∷ ns) = true
 
--- the refusals of all alternatives; one that names none is refused at the `try`
+abbrev pub is_over : Program → ClassId → Option ClassId → Bool
+is_over p c None = false
+is_over p c (Some d) = is_under p c d
+
+-- how many of the alternatives the class is under
+abbrev pub alternatives_over : Surroundings → List Name → ClassId → ℕ
+alternatives_over s names c = count_by (λ n. is_over s.context.program c (caught_class s n)) names
+
+-- of the alternatives the class is under one alone, which is itself
+abbrev pub is_under_one : Surroundings → List Name → Option ClassId → Bool
+is_under_one s names None = true
+is_under_one s names (Some c) = nat_le (alternatives_over s names c) 1
+
+-- no alternative is under another
+abbrev pub are_apart : Surroundings → List Name → Bool
+are_apart s names = list_all (λ n. is_under_one s names (caught_class s n)) names
+
+-- the refusals of all alternatives; a clause that names none, or one that is under another, is refused at the `try`
 abbrev pub alternatives_cases : Surroundings → Pos → List Name → List Refusal
-alternatives_cases s place names = unless (has_alternative names) place ++ each_alternative_cases s place names
+alternatives_cases s place names = unless (has_alternative names && are_apart s names) place ++ each_alternative_cases s place names
 
 -- ---- what a clause catches
 

@@ -7,7 +7,7 @@ ghost use Rattle.program_model.specs.Lookups.{optional};
 ghost use Rattle.java_syntax.specs.AnnotationTrees.{modifier_of};
 ghost use Rattle.java_call_rules.specs.WrittenTypes.{class_of_name};
 ghost use Rattle.java_call_rules.specs.Surroundings.{surroundings_of};
-ghost use Rattle.java_statement_rules.specs.CatchClauses.{alternative_cases, alternatives_cases, caught_by, caught_class, caught_classes, classes_named, each_alternative_cases, exception_cases, has_alternative, has_several, if_exception, is_exception_class, is_final_parameter, joined_class, joined_classes, or_throwable, parameter_type};
+ghost use Rattle.java_statement_rules.specs.CatchClauses.{alternative_cases, alternatives_cases, alternatives_over, are_apart, caught_by, caught_class, caught_classes, classes_named, each_alternative_cases, exception_cases, has_alternative, has_several, if_exception, is_exception_class, is_final_parameter, is_over, is_under_one, joined_class, joined_classes, or_throwable, parameter_type};
 
 use crate::statements::count_unless;
 use crate::variables::has_final;
@@ -91,8 +91,43 @@ fn has_alternative(names: &[Name]) -> bool
     !names.is_empty()
 }
 
+fn is_over(p: &Program, class: ClassId, alternative: Option<ClassId>) -> bool
+    ensures { result ≡ is_over p.now class alternative }
+{
+    match alternative {
+        None => false,
+        Some(found) => under(p, class, found),
+    }
+}
+
+// How many of these alternatives the class is under.
+fn count_over(scope: &BodyScope, names: &[Name], class: ClassId) -> usize
+    ensures { result ≡ alternatives_over (surroundings_of scope.now) names.now class }
+{
+    names
+        .iter()
+        .filter(|name| is_over(scope.scope.program, class, caught_class(scope, name)))
+        .count()
+}
+
+// Whether of these alternatives the class is under one alone.
+fn is_under_one(scope: &BodyScope, names: &[Name], class: Option<ClassId>) -> bool
+    ensures { result ≡ is_under_one (surroundings_of scope.now) names.now class }
+{
+    match class {
+        None => true,
+        Some(found) => count_over(scope, names, found) <= 1,
+    }
+}
+
+fn are_apart(scope: &BodyScope, names: &[Name]) -> bool
+    ensures { result ≡ are_apart (surroundings_of scope.now) names.now }
+{
+    names.iter().all(|name| is_under_one(scope, names, caught_class(scope, name)))
+}
+
 /// Counts the refusals of the alternatives of a clause: of a name that means no class, and, at the `try`, of a class that is
-/// none of exceptions, and of a clause that names no class.
+/// none of exceptions, of a clause that names no class, and of one that is under another.
 pub fn count_alternatives(
     scope: &BodyScope,
     pos: Pos,
@@ -101,7 +136,8 @@ pub fn count_alternatives(
 ) -> Result<(), NoMemory>
     ensures { OnOk result (refusals.new.items ≡ refusals.old.items ++ alternatives_cases (surroundings_of scope.now) pos names.now) }
 {
-    count_unless(has_alternative(names), pos, refusals)?;
+    let settled = has_alternative(names) && are_apart(scope, names);
+    count_unless(settled, pos, refusals)?;
     count_each_alternative(scope, pos, names, refusals)
 }
 

@@ -1,5 +1,5 @@
 -- The parameter of a catch clause that is not refused has a type.
-use Rattle.std.proofs.Common.{◌≡◌, Bool, true, false, cond, Option, Some, None, List, [], ◌∷◌, ◌++◌, refl, sym, subst, ap, ◌∙◌}
+use Rattle.std.proofs.Common.{◌≡◌, ◌&&◌, Bool, true, false, cond, Option, Some, None, List, [], ◌∷◌, ◌++◌, refl, sym, subst, ap, ◌∙◌}
 use Rattle.std.specs.Option.{is_some, option_map}
 use Rattle.std.proofs.lemmas.Bool.{eqb-true}
 use Rattle.rlc_base.specs.declared.place.Pos.{Pos}
@@ -14,7 +14,8 @@ use Rattle.java_conversions.specs.Types.{type_of_class}
 use Rattle.java_call_rules.specs.WrittenTypes.{class_of_name, unknown_name_cases}
 use Rattle.java_call_rules.specs.Surroundings.{Surroundings}
 use Rattle.java_statement_parts.proofs.Goodness.{IsKnown, cons_is_nil, nil_left, nil_right}
-use Rattle.java_statement_rules.specs.CatchClauses.{alternative_cases, alternatives_cases, caught_class, caught_classes, each_alternative_cases, exception_cases, if_exception, is_exception_class, joined_class, joined_classes, parameter_type}
+use Rattle.java_statement_rules.specs.CatchClauses.{alternative_cases, alternatives_cases, are_apart, caught_class, caught_classes, each_alternative_cases, exception_cases, has_alternative, if_exception, is_exception_class, joined_class, joined_classes, parameter_type}
+use Rattle.java_statement_rules.specs.StatementCases.{unless}
 use Rattle.java_typing_laws.specs.CatchParameters.{HasCatchTypes}
 use Rattle.java_typing_laws.proofs.Parts.{holds}
 
@@ -60,5 +61,6 @@ joined s has place t c joins under (n ∷ ns) none =
 pub parameter_known : (s : Surroundings) → HasCatchTypes s.context.program → (place : Pos) (names : List Name) → alternatives_cases s place names ≡ [] → IsKnown (parameter_type s names)
 parameter_known s has place [] none = absurd (cons_is_nil _ _ none)
 parameter_known s has place (n ∷ ns) none =
-    let k = caught s place n ns none in
-    subst (λ u. IsKnown (joined_classes s.context.program (option_map types.Obj u) (caught_classes s ns))) (sym k.is) (joined s has place (types.Obj k.class') k.class' (λ d. refl) (has.exceptions k.class' k.exception) ns (nil_right (alternative_cases s place n) (each_alternative_cases s place ns) none))
+    let each_none = nil_right (unless (has_alternative (n ∷ ns) && are_apart s (n ∷ ns)) place) (each_alternative_cases s place (n ∷ ns)) none in
+    let k = caught s place n ns each_none in
+    subst (λ u. IsKnown (joined_classes s.context.program (option_map types.Obj u) (caught_classes s ns))) (sym k.is) (joined s has place (types.Obj k.class') k.class' (λ d. refl) (has.exceptions k.class' k.exception) ns (nil_right (alternative_cases s place n) (each_alternative_cases s place ns) each_none))

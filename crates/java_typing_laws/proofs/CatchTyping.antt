@@ -1,6 +1,6 @@
 -- The alternatives of a catch clause in which nothing is refused are classes of exceptions, and its parameter has a type that
 -- values of all of them may be stored in.
-use Rattle.std.proofs.Common.{◌≡◌, ◌∙◌, ◌<◌, inr, Bool, true, false, cond, not, Option, Some, None, List, [], ◌∷◌, ◌++◌, All, length, find, option_map, refl, sym, subst, ap, arith, eq-eqb, true≢false}
+use Rattle.std.proofs.Common.{◌≡◌, ◌∙◌, ◌&&◌, ◌<◌, inr, Bool, true, false, cond, not, Option, Some, None, List, [], ◌∷◌, ◌++◌, All, length, find, option_map, refl, sym, subst, ap, arith, eq-eqb, true≢false}
 use Rattle.std.specs.Option.{is_some}
 use Rattle.std.proofs.lemmas.Bool.{and_parts}
 use Rattle.std.proofs.lemmas.List.Elements.{All-cons, All-head, All-nil, All-tail}
@@ -22,7 +22,7 @@ use Rattle.java_conversions.specs.Types.{type_of_class}
 use Rattle.java_call_rules.specs.WrittenTypes.{class_of_name, unknown_name_cases}
 use Rattle.java_call_rules.specs.Surroundings.{Surroundings}
 use Rattle.java_statement_parts.proofs.Goodness.{cons_is_nil, nil_left, nil_right}
-use Rattle.java_statement_rules.specs.CatchClauses.{alternative_cases, alternatives_cases, caught_class, caught_classes, classes_named, each_alternative_cases, exception_cases, has_alternative, if_exception, is_exception_class, joined_class, joined_classes, parameter_type}
+use Rattle.java_statement_rules.specs.CatchClauses.{alternative_cases, alternatives_cases, are_apart, caught_class, caught_classes, classes_named, each_alternative_cases, exception_cases, has_alternative, if_exception, is_exception_class, joined_class, joined_classes, parameter_type}
 use Rattle.java_statement_rules.specs.StatementCases.{unless}
 use Rattle.java_typing_laws.proofs.Parts.{holds}
 use Rattle.java_typing_laws.specs.TypingContexts.{HasTypedMembers}
@@ -164,7 +164,7 @@ pub parameter_typed : (s : Surroundings) → HasDeclarableTypes s.context.progra
 parameter_typed s h place [] none = absurd (cons_is_nil _ _ none)
 parameter_typed s h place (n ∷ ns) none =
     let p : Program = s.context.program in
-    let each_none = nil_right (unless (has_alternative (n ∷ ns)) place) (each_alternative_cases s place (n ∷ ns)) none in
+    let each_none = nil_right (unless (has_alternative (n ∷ ns) && are_apart s (n ∷ ns)) place) (each_alternative_cases s place (n ∷ ns)) none in
     let k = caught s place n ns each_none in
     let d : ClassId = k.class' in
     let has : HasClass p d = h.named n.text d k.named in

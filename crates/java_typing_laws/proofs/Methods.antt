@@ -18,11 +18,12 @@ use Rattle.program_model.specs.Overrides.{is_method_kind, methods_in, methods_of
 use Rattle.program_model.specs.SuperTests.{classes_above}
 use Rattle.program_model.specs.Validity.{IsMethodOf}
 use Rattle.class_members.specs.Members.{constructors_of, is_constructor_by, is_constructor_kind, is_named_by, methods_named}
-use Rattle.class_members.proofs.Elements.{contains-none, contains-one, filter-among, find-among}
+use Rattle.class_members.proofs.Elements.{contains-none, contains-one, filter-among}
 use Rattle.class_members.proofs.MemberLaws.{members_are_members}
 use Rattle.java_overloads.specs.declared.choices.Choice.{Choice}
 use Rattle.java_overloads.specs.declared.choices.Choice.TheVariants as choices
-use Rattle.java_overloads.specs.Overloads.{choice_among, choice_in, is_most_specific, is_preferred, most_specific, preferred}
+use Rattle.java_overloads.specs.Overloads.{choice_among, choice_in, is_most_specific, most_specific, preferred}
+use Rattle.java_overloads.proofs.ChoiceLaws.{preferred_is_best}
 use Rattle.java_typed_trees.specs.declared.facts.Answer.{Answer}
 use Rattle.java_typed_trees.specs.declared.facts.Answer.TheVariants as answers
 use Rattle.java_call_rules.specs.JavaMemberRulesCalls.{is_static_kind, is_static_method}
@@ -123,8 +124,8 @@ chosen_among : (p : Program) (all : List MethodId) (m : MethodId) → choice_amo
 chosen_among p [] m h = absurd (not_chosen m h)
 chosen_among p (x ∷ xs) m h =
     let all : List MethodId = x ∷ xs in
-    let best = find-among (is_preferred p (most_specific p all)) (most_specific p all) m (chosen_in (preferred p (most_specific p all)) m h) in
-    (filter-among (is_most_specific p all) all m best.0).0
+    let best = preferred_is_best p (most_specific p all) m (chosen_in (preferred p (most_specific p all)) m h) in
+    (filter-among (is_most_specific p all) all m best.among).0
 
 -- one of the candidates, which takes the arguments
 pub record IsMeantMethod (p : Program) (candidates : List MethodId) (arguments : List Typing) (m : MethodId) : Type 0 where

@@ -27,9 +27,10 @@ use Rattle.program_model.specs.SuperTests.{has_class, is_under}
 use Rattle.program_model.specs.Overrides.{Overriding}
 use Rattle.rlc_base.specs.NameSet.{is_same}
 use Rattle.must_call_sets.specs.MustCallSets.{Names, no_names, must_of, must_of_optional, is_heavy_class}
-use Rattle.must_call_sets.specs.Signatures.{is_position, is_present, is_owning_at, type_at}
+use Rattle.must_call_sets.specs.Signatures.{has_name, is_position, is_present, is_owning_at, type_at}
 use Rattle.must_call_sets.specs.Overridings.{class_ids, overridings}
 use Rattle.must_call_sets.specs.Bodies.{is_constructor_kind}
+use Rattle.must_call_sets.specs.OwningCases.{gives_alias_of, gives_as_alias, is_of_type, type_at_some}
 use Rattle.refusal_order.specs.Refusals.{where_true}
 
 abbrev pub bad_alias : Bool → Pos → List Refusal
@@ -157,11 +158,57 @@ is_heavy_super p (Some d) = is_heavy_class p d
 abbrev pub resets_near : Program → ClassId → Method → Bool
 resets_near p c m = is_position m.sig.reset 0 && (is_under p c m.class || is_under p m.class c)
 
+-- A call on an alias counts for the object behind it, whatever the alias does there; but for the one name of an alias of the program, whose method has to
+-- call it on what its field holds. So no other name that must be called on the object may be that of a call on the alias.
+
+-- objects of the class may be made as aliases by the method or constructor: those of a class of the program by its constructors alone
+abbrev pub makes_as_alias : Class → Method → Bool
+makes_as_alias k m = gives_as_alias k m && (k.library || is_constructor_kind m.kind)
+
+-- objects of the class are of the type, and may be made as aliases
+abbrev pub is_made_alias : Program → VType → Class → Bool
+is_made_alias p t k = is_of_type k (Some t) && list_any (makes_as_alias k) p.methods.items
+
+-- what is of the type may be an object of the class, or an alias that is made while some method or constructor gives aliases of such objects
+abbrev pub may_stand_at : Program → Option VType → Class → Bool
+may_stand_at p None d = false
+may_stand_at p (Some t) d = is_of_type d (Some t) || list_any (gives_alias_of d) p.methods.items && list_any (is_made_alias p t) p.classes.items
+
+-- the aliased argument of the method or constructor may be an object of the class, or an alias of one
+abbrev pub may_be_behind : Program → Method → Class → Bool
+may_be_behind p m d = may_stand_at p (type_at_some m.sig m.sig.alias) d
+
+-- it gives objects of class `x` as aliases, behind which objects of class `d` may be
+abbrev pub gives_before : Program → Class → Class → Method → Bool
+gives_before p d x m = gives_as_alias x m && may_be_behind p m d
+
+-- a class of the library that has the method, and whose objects may be aliases of objects of class `k`
+abbrev pub is_library_alias_with : Program → Class → Method → Class → Bool
+is_library_alias_with p k m x = x.library && has_class x.above.items m.class && list_any (gives_before p k x) p.methods.items
+
+-- the method may be called on objects of the class, or on aliases of them that the library makes
+abbrev pub may_be_called_on : Program → Class → Method → Bool
+may_be_called_on p k m = has_class k.above.items m.class || list_any (is_library_alias_with p k m) p.classes.items
+
+-- the call must be made on objects of class `d`, and not on those of the alias class `k`, but may be made on these
+abbrev pub is_miscounted : Program → Class → Class → Method → Bool
+is_miscounted p k d m = has_name d.must m.sig.interest && not (has_name k.must m.sig.interest) && may_be_called_on p k m
+
+-- behind aliases that the constructor of class `k` makes there may be objects of class `d`, on which more must be called than on the alias, and for which
+-- some call on an alias would count
+abbrev pub is_passed_over : Program → Class → Method → Class → Bool
+is_passed_over p k m d = not (set.is_subset d.must k.must) && may_be_behind p m d && list_any (is_miscounted p k d) p.methods.items
+
+abbrev pub passes_over : Program → Class → Option Method → Bool
+passes_over p k None = false
+passes_over p k (Some m) = is_constructor_kind m.kind && list_any (is_passed_over p k m) p.classes.items
+
 abbrev pub is_bad_alias_class : Program → ClassId → Class → Bool
 is_bad_alias_class p c k =
     not (is_one_final p (owning_fields p k))
     || is_heavy_super p k.sup
     || list_any (resets_near p c) p.methods.items
+    || list_any (λ m. passes_over p k (method_at p m)) k.methods.items
 
 abbrev pub alias_cases_in : Program → ClassId → Option Class → List Refusal
 alias_cases_in p c None = []

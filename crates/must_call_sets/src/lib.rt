@@ -1,10 +1,14 @@
 //! What must be called on the objects of a class, what signatures say, and what makes a program well formed.
 #![tactic(auto)]
 
+mod alias_types;
 mod bodies;
 mod class_sets;
 mod signatures;
 
+pub use alias_types::{
+    gives_as_alias, has_alias, is_aliased, is_given_as_alias, is_of_type, type_at_some,
+};
 pub use bodies::{
     alias_position, fields_of, has_field_place, is_alias_constructor, is_constructor,
     is_constructor_kind, is_extended, is_extended_constructor, is_finalizer, method_of,

@@ -1,16 +1,19 @@
 -- The steps of the loops over places, and the test for no place.
-use Rattle.std.proofs.Common.{◌≡◌, ◌↔◌, ℕ, suc, ◌+◌, ◌-◌, ◌<◌, ◌≤◌, Bool, true, false, ◌||◌, sym, ap, ◌∙◌, arith, true≢false}
-use Rattle.std.specs.Prelude.{IsTrue, if◌then◌else◌}
+use Rattle.std.proofs.Common.{◌≡◌, ◌↔◌, ℕ, suc, ◌+◌, ◌-◌, ◌<◌, ◌≤◌, Bool, true, false, ◌||◌, ◌&&◌, not, refl, sym, ap, ◌∙◌, arith, true≢false, ne_eqb, inl, inr}
+use Rattle.std.specs.Prelude.{◌==◌, IsTrue, if◌then◌else◌}
+use Rattle.std.proofs.lemmas.Bool.{and_right, cases_eq}
 use Rattle.std.specs.FinSet as set
 use Rattle.std.specs.Ordering.{nat_cmp}
-use Rattle.std.specs.Cmp.{nat_cmp_total}
+use Rattle.std.specs.Cmp.{nat_cmp_total, unsigned_tied}
 use Rattle.std.proofs.lemmas.Bool.Decides.{same_from_decides}
 use Rattle.program_model.specs.declared.tree.Body.{Body}
 use Rattle.control_actions.specs.declared.action.Scope.{Scope}
+use Rattle.control_actions.specs.PlaceNumbers.{number_of}
+use Rattle.control_actions.specs.declared.place.Place.{Place}
 use Rattle.control_actions.specs.declared.place.Place.TheVariants as places
 use Rattle.control_actions.specs.Scopes.{drops_variable}
 use Rattle.obligation_facts.specs.Facts.{PlaceSet, has, without, is_nowhere, without_temps, without_variables, has_field_from, without_fields_from}
-use Rattle.rlc_base.specs.NameSet.{same_within}
+use Rattle.rlc_base.specs.NameSet.{same_members, same_within}
 
 no_member : (held : PlaceSet) → set.is_subset set.empty held ≡ true
 no_member held = set.contains-is_subset nat_cmp_total set.empty held (λ q one. absurd (true≢false (sym one ∙ set.contains-empty nat_cmp q)))
@@ -34,6 +37,21 @@ unfolding without_temps
 temps_end held d e past = let none : e - d ≡ 0 = omega arith in ap (λ n. without_temps held d n) none
 
 -- variables
+absent_still : (held : PlaceSet) (n k : ℕ) → set.contains held n ≡ false → (not (k == n) && set.contains held k) ≡ set.contains held k
+absent_still held n k absent = elim (cases_eq k n) [
+  | inl same ↦ and_right (not (k == n)) _ (ap (set.contains held) same ∙ absent) ∙ sym (ap (set.contains held) same ∙ absent)
+  | inr other ↦ ap (λ b. not b && set.contains held k) (ne_eqb k n other)
+]
+
+absent_goes : (held : PlaceSet) (x : Place) → has held x ≡ false → without held x ≡ held
+absent_goes held x absent = same_members _ _ (λ k. set.contains-remove nat_cmp_total held (number_of x) k
+    ∙ ap (λ b. not b && set.contains held k) (unsigned_tied k (number_of x)) ∙ absent_still held (number_of x) k absent)
+
+-- where the place is not held, its variable may be dropped or not
+pub absent_stays : (held : PlaceSet) (x : Place) (drops : Bool) → has held x ≡ false → held ≡ (if drops then without held x else held)
+absent_stays held x true absent = sym (absent_goes held x absent)
+absent_stays held x false absent = refl
+
 pub variables_next : (b : Body) (s : Scope) (held : PlaceSet) (i e : ℕ) → i < e
     → without_variables b s held i (e - i) ≡ without_variables b s (if drops_variable b s i then without held (places.Var i) else held) (i + 1) (e - (i + 1))
 unfolding without_variables

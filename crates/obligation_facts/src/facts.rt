@@ -1,7 +1,9 @@
 //! What becomes of a fact where its places change, and what it still owes.
 
-ghost use Rattle.std.specs.Prelude.{◌≡◌, ◌+◌, ◌<◌, ◌≤◌};
-ghost use Rattle.obligation_facts.specs.Facts.{are_position, has_field, has_part, has_temp, is_alias, is_held, is_lent, is_met, is_nowhere, is_origin_at, is_own, is_this_origin, leave, missing, mode_at, need, owes, position_of, without_fields, without_parts, without_scope, without_temps, without_variables};
+ghost use Rattle.std.specs.Prelude.{◌≡◌, ◌+◌, ◌<◌, ◌≤◌, if◌then◌else◌};
+ghost use Rattle.control_actions.specs.Scopes.{drops_variable};
+ghost use Rattle.control_actions.specs.declared.place.Place.TheVariants as places;
+ghost use Rattle.obligation_facts.specs.Facts.{are_position, has_field, has_part, has_temp, is_alias, is_held, is_lent, is_met, is_nowhere, is_origin_at, is_own, is_this_origin, leave, missing, mode_at, need, owes, position_of, without, without_fields, without_parts, without_scope, without_temps, without_variables};
 ghost use Rattle.obligation_facts.specs.SmallActions.{IsSmallScope, IsSmallTemp};
 
 use control_actions::{
@@ -41,6 +43,23 @@ pub fn without_temps(held: Places, d: u32, n: u32) -> Places
     left
 }
 
+// The places without that of a variable, where the scope drops it. What the scope declares is only looked up for a variable that is
+// held: few are.
+fn without_variable(body: &Body, scope: Scope, held: Places, variable: u32) -> Places
+    requires { variable < 160 }
+    ensures { result ≡ if drops_variable body.now scope variable then without held (places.Var variable) else held }
+{
+    let place = Place::Var(variable);
+    if !held.contains(place) {
+        return held;
+    }
+    if is_dropped(body, scope, place) {
+        held.without(place)
+    } else {
+        held
+    }
+}
+
 // The places without those of the variables that a scope drops.
 #[tactic(auto, using(crate::proofs::FactLaws::variables_next, crate::proofs::FactLaws::variables_end))]
 fn without_variables(body: &Body, scope: Scope, held: Places) -> Places
@@ -48,9 +67,7 @@ fn without_variables(body: &Body, scope: Scope, held: Places) -> Places
 {
     let mut left = held;
     for variable in 0..160u32 {
-        if is_dropped(body, scope, Place::Var(variable)) {
-            left = left.without(Place::Var(variable));
-        }
+        left = without_variable(body, scope, left, variable);
     }
     left
 }

@@ -30,13 +30,13 @@ CountsRead before now (Err Failed) = Rose before now
 CountsRead before now (Err TooBig) = now ≡ before
 CountsRead before now (Err NoMemory) = now ≡ before
 
--- what a read answers by the contents: the whole file, or that it is too long
-abbrev pub AnswersRead : {T : Type 0} → Contents → List ℕ → Result T ReadFail → List ℕ → Type 0
-AnswersRead files name (Ok x) into = (file files name ≡ Some into) × (length into ≤ max_file)
-AnswersRead files name (Err TooBig) into = (bytes : List ℕ) × (file files name ≡ Some bytes) × (max_file < length bytes)
-AnswersRead files name (Err Failed) into = Unit {0}
-AnswersRead files name (Err NoMemory) into = Unit {0}
+-- what a read of at most so many bytes answers by the contents: the whole file, or that it is longer
+abbrev pub AnswersUpTo : {T : Type 0} → ℕ → Contents → List ℕ → Result T ReadFail → List ℕ → Type 0
+AnswersUpTo most files name (Ok x) into = (file files name ≡ Some into) × (length into ≤ most)
+AnswersUpTo most files name (Err TooBig) into = (bytes : List ℕ) × (file files name ≡ Some bytes) × (most < length bytes)
+AnswersUpTo most files name (Err Failed) into = Unit {0}
+AnswersUpTo most files name (Err NoMemory) into = Unit {0}
 
--- more bytes were taken than a file may have, or their count stands at the last value
-abbrev pub TakesPast : ℕ → ℕ → Type 0
-TakesPast before now = RoseBy (max_file + 1) before now
+-- more than so many bytes were taken, or their count stands at the last value
+abbrev pub TakesMore : ℕ → ℕ → ℕ → Type 0
+TakesMore most before now = RoseBy (most + 1) before now

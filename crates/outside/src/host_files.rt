@@ -1,7 +1,7 @@
 ghost use Rattle.std.specs.Prelude.{◌≡◌, ℕ, ◌≤◌, [], length, None, OnOk, OnErr, IfSome};
-ghost use Rattle.outside.specs.Files.{TakesPast, max_file};
+ghost use Rattle.outside.specs.Files.{TakesMore};
 
-use crate::files::{Files, MAX_FILE, ReadFail};
+use crate::files::{Files, ReadFail};
 use std::{fs, io, rt};
 
 // How many bytes are asked for at once.
@@ -16,17 +16,18 @@ pub struct HostFiles<'a, R: rt::Files> {
     taken: u64,
 }
 
-// Reads to the end, or until more than `MAX_FILE` bytes are there: all that the file had left, where that is known. After an
+// Reads to the end, or until more than `most` bytes are there: all that the file had left, where that is known. After an
 // error `into` holds what came before it.
 fn read_whole<F: io::Read>(
     file: &mut F,
+    most: u32,
     taken: &mut u64,
     into: &mut Vec<u8>,
 ) -> Result<(), ReadFail>
     requires { into.old.items ≡ [] }
     ensures never_falls { taken.old ≤ taken.new }
-    ensures past { result ≡ Err ReadFail.TooBig → TakesPast taken.old taken.new }
-    ensures small { OnOk result (length into.new.items ≤ max_file) }
+    ensures past { result ≡ Err ReadFail.TooBig → TakesMore most taken.old taken.new }
+    ensures small { OnOk result (length into.new.items ≤ most) }
     ensures whole { OnOk result (IfSome (F.remaining file.old) (λ bytes. into.new.items ≡ bytes)) }
 {
     let mut chunk = [0u8; CHUNK];
@@ -35,7 +36,7 @@ fn read_whole<F: io::Read>(
             Ok(0) => return Ok(()),
             Ok(count) => {
                 *taken = taken.saturating_add(count as u64);
-                if count > MAX_FILE - into.len() {
+                if count > most as usize - into.len() {
                     return Err(ReadFail::TooBig);
                 }
                 if into.extend_from_slice(&chunk[..count]).is_err() {
@@ -66,15 +67,15 @@ impl<'a, R: rt::Files> HostFiles<'a, R> {
     }
 
     // Opens the file and reads it.
-    fn read_named(&mut self, name: &str, into: &mut Vec<u8>) -> Result<(), ReadFail>
+    fn read_named(&mut self, name: &str, most: u32, into: &mut Vec<u8>) -> Result<(), ReadFail>
         requires { into.old.items ≡ [] }
         ensures faults_stay { self.new.faults ≡ self.old.faults }
         ensures never_falls { self.old.taken ≤ self.new.taken }
-        ensures past { result ≡ Err ReadFail.TooBig → TakesPast self.old.taken self.new.taken }
-        ensures small { OnOk result (length into.new.items ≤ max_file) }
+        ensures past { result ≡ Err ReadFail.TooBig → TakesMore most self.old.taken self.new.taken }
+        ensures small { OnOk result (length into.new.items ≤ most) }
     {
         match fs::open(self.runtime, name) {
-            Ok(mut file) => read_whole(&mut file, &mut self.taken, into),
+            Ok(mut file) => read_whole(&mut file, most, &mut self.taken, into),
             Err(error) => {
                 if error.kind() == io::ErrorKind::OutOfMemory {
                     return Err(ReadFail::NoMemory);
@@ -94,8 +95,8 @@ impl<R: rt::Files> Files for HostFiles<'_, R> {
 
     ghost sound = { λ s. ⊥ };
 
-    fn read(&mut self, name: &str, into: &mut Vec<u8>) -> Result<(), ReadFail> {
-        let result = self.read_named(name, into);
+    fn read_upto(&mut self, name: &str, most: u32, into: &mut Vec<u8>) -> Result<(), ReadFail> {
+        let result = self.read_named(name, most, into);
         if result.is_err() {
             into.clear();
         }

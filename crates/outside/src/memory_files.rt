@@ -1,10 +1,10 @@
 ghost use Rattle.std.specs.Prelude.{◌≡◌, ℕ, ◌≤◌, [], ◌∷◌, ◌++◌, length, Some, OnOk, OnErr, option_copied};
 ghost use Rattle.std.specs.FinMap as map;
 ghost use Rattle.outside.specs.Counts.{raised};
-ghost use Rattle.outside.specs.Files.{HasFile, CountsRead, AnswersRead, max_file, file};
+ghost use Rattle.outside.specs.Files.{HasFile, CountsRead, AnswersUpTo, file};
 ghost use Rattle.outside.specs.MemFiles.{contents_of, mem_contents, failing_reads, read_number, read_faults, taken_bytes, is_read_failing, FailsAsListed, KeepsCounts};
 
-use crate::files::{Files, MAX_FILE, ReadFail};
+use crate::files::{Files, ReadFail};
 use rlc_base::NoMemory;
 use std::alloc::Global;
 use std::collections::VecDeque;
@@ -91,13 +91,13 @@ impl Files for MemFiles {
     ghost sound = { λ s. failing_reads s ≡ [] };
 
     /// Fails exactly where the number of this read is listed or no file has the name.
-    fn read(&mut self, name: &str, into: &mut Vec<u8>) -> Result<(), ReadFail>
+    fn read_upto(&mut self, name: &str, most: u32, into: &mut Vec<u8>) -> Result<(), ReadFail>
         requires { into.old.items ≡ [] }
         ensures contents_stay { Some (mem_contents self.new) ≡ Some (mem_contents self.old) }
         ensures cause { CountsRead (read_faults self.old) (read_faults self.new) result }
         ensures never_falls { taken_bytes self.old ≤ taken_bytes self.new }
-        ensures told { AnswersRead (mem_contents self.old) name.now result into.new.items }
-        ensures small { OnOk result (length into.new.items ≤ max_file) }
+        ensures told { AnswersUpTo most (mem_contents self.old) name.now result into.new.items }
+        ensures small { OnOk result (length into.new.items ≤ most) }
         ensures empty { OnErr result (into.new.items ≡ []) }
         ensures holds { failing_reads self.old ≡ [] → HasFile (mem_contents self.old) name.now → read_faults self.new ≡ read_faults self.old }
         ensures numbered { read_number self.new ≡ raised 1 (read_number self.old) }
@@ -113,7 +113,7 @@ impl Files for MemFiles {
             self.faults = self.faults.saturating_add(1);
             return Err(ReadFail::Failed);
         };
-        if bytes.len() > MAX_FILE {
+        if bytes.len() > most as usize {
             return Err(ReadFail::TooBig);
         }
         if into.extend_from_slice(bytes).is_err() {

@@ -2,7 +2,7 @@
 use Rattle.std.specs.Prelude.{◌≡◌, ℕ, Option, Some, None, List}
 use Rattle.outside.specs.Files.{Contents}
 use Rattle.source_files.specs.Reading.{Counts, CountsNoFault, HasAll, HasNamed}
-use Rattle.command_words.specs.Requests.{InputNames, Request, check, generate, run, settings}
+use Rattle.command_words.specs.Requests.{InputNames, Request, certify, check, generate, run, settings, verify}
 use Rattle.command_words.specs.Usage.{usage_text}
 use Rattle.command_answers.specs.Sending.{IsSent}
 use Rattle.command_answers.specs.declared.answers.Answer.{Answer}
@@ -10,6 +10,8 @@ use Rattle.command_answers.specs.declared.answers.Outcome.TheVariants as outcome
 use Rattle.command_answers.specs.declared.statuses.Status.{Status}
 use Rattle.command_answers.specs.declared.statuses.Status.TheVariants as statuses
 use Rattle.command_inputs.specs.Inputs.{FileNames, list_of}
+use Rattle.command_inputs.specs.Limited.{HasAllBeside}
+use Rattle.check_command.specs.Certificates.{IsCertifyAnswer, IsVerifyAnswer}
 use Rattle.check_command.specs.Checks.{IsCheckAnswer}
 use Rattle.check_command.specs.Generated.{IsGeneratedAnswer}
 use Rattle.run_inputs.specs.Runs.{IsRunAnswer}
@@ -22,7 +24,7 @@ pub record IsUsage (answer : Answer) : Type 0 where
   pub outcome_is : answer.outcome ≡ outcomes.Usage
   pub text_is : answer.text ≡ usage_text
 
--- the files of a check, and of a run
+-- the files of a check or a certificate, and of a run
 abbrev pub check_names : InputNames → FileNames
 check_names input = record { settings = input.settings; choices = None; files = input.files }
 
@@ -35,6 +37,8 @@ IsRequestAnswer told c (check input) answer = IsCheckAnswer told (check_names in
 IsRequestAnswer told c (run main choices steps input) answer = IsRunAnswer (record { class = main; steps = steps }) told (run_names choices input) c answer
 IsRequestAnswer told c (generate seed methods) answer = IsGeneratedAnswer seed methods answer × CountsNoFault c
 IsRequestAnswer told c (settings file) answer = IsSettingsAnswer told file c answer
+IsRequestAnswer told c (certify input) answer = IsCertifyAnswer told (check_names input) c answer
+IsRequestAnswer told c (verify certificate input) answer = IsVerifyAnswer certificate told (check_names input) c answer
 
 -- why this is the answer to words that ask for this, or for nothing that the command does
 abbrev pub IsAnswer : Option Contents → Counts → Option Request → Answer → Type 0
@@ -64,6 +68,8 @@ HasRequested told (check input) = HasAll told (list_of (check_names input))
 HasRequested told (run main choices steps input) = HasAll told (list_of (run_names choices input))
 HasRequested told (generate seed methods) = Unit {0}
 HasRequested told (settings file) = HasNamed told file
+HasRequested told (certify input) = HasAll told (list_of (check_names input))
+HasRequested told (verify certificate input) = HasAllBeside told (check_names input) certificate
 
 abbrev pub HasAllNamed : Option Contents → Option Request → Type 0
 HasAllNamed told None = Unit {0}

@@ -3,12 +3,14 @@
 ghost use Rattle.std.specs.Prelude.{◌≡◌, map, option_map, string_bytes, IfOk};
 ghost use Rattle.source_files.specs.Reading.{HasAll};
 ghost use Rattle.command_inputs.specs.Inputs.{list_of, names_of};
+ghost use Rattle.command_inputs.specs.Limited.{HasAllBeside};
+ghost use Rattle.check_command.specs.Certificates.{IsCertifyAnswer, IsVerifyAnswer};
 ghost use Rattle.check_command.specs.Checks.{IsCheckAnswer};
 ghost use Rattle.run_inputs.specs.Runs.{IsRunAnswer, run_of};
 ghost use Rattle.command_words.specs.Requests.{input_names, request_in, request_of};
 ghost use Rattle.rlc_cli.specs.Answers.{HasAllNamed, HasRequested, IsAnswer, check_names, IsRequestAnswer, IsUsage, run_names};
 
-use check_command::{check_answer, generated_answer};
+use check_command::{certify_answer, check_answer, generated_answer, verify_answer};
 use command_answers::{Answer, Outcome};
 use command_inputs::CommandNames;
 use command_words::{Command, Inputs, WordsStop, read_words, usage};
@@ -53,6 +55,33 @@ fn check_inputs<F: Files>(
     ensures holds { F.sound files.old → HasAll (F.contents files.old) (list_of (check_names (input_names inputs.now))) → F.faults files.new ≡ F.faults files.old }
 {
     check_answer(alloc, check_names(inputs), files)
+}
+
+// The answer of `certify`.
+fn certify_inputs<F: Files>(
+    alloc: Global,
+    inputs: &Inputs<'_>,
+    files: &mut F,
+) -> Result<Answer, NoMemory>
+    ensures answer { IfOk result (IsCertifyAnswer (F.contents files.old) (check_names (input_names inputs.now)) (record { faults = F.faults files.old; faults_now = F.faults files.new; taken = F.taken files.old; taken_now = F.taken files.new })) }
+    ensures told { F.contents files.new ≡ F.contents files.old }
+    ensures holds { F.sound files.old → HasAll (F.contents files.old) (list_of (check_names (input_names inputs.now))) → F.faults files.new ≡ F.faults files.old }
+{
+    certify_answer(alloc, check_names(inputs), files)
+}
+
+// The answer of `verify`.
+fn verify_inputs<F: Files>(
+    alloc: Global,
+    certificate: &str,
+    inputs: &Inputs<'_>,
+    files: &mut F,
+) -> Result<Answer, NoMemory>
+    ensures answer { IfOk result (IsVerifyAnswer certificate.now (F.contents files.old) (check_names (input_names inputs.now)) (record { faults = F.faults files.old; faults_now = F.faults files.new; taken = F.taken files.old; taken_now = F.taken files.new })) }
+    ensures told { F.contents files.new ≡ F.contents files.old }
+    ensures holds { F.sound files.old → HasAllBeside (F.contents files.old) (check_names (input_names inputs.now)) certificate.now → F.faults files.new ≡ F.faults files.old }
+{
+    verify_answer(alloc, certificate, check_names(inputs), files)
 }
 
 // The files of a run.
@@ -112,6 +141,11 @@ fn request_answer<F: Files>(
         ),
         Command::Generate { seed, methods } => generated_answer(alloc, *seed, *methods),
         Command::Settings { file } => settings_answer(alloc, file, files),
+        Command::Certify(inputs) => certify_inputs(alloc, inputs, files),
+        Command::Verify {
+            certificate,
+            inputs,
+        } => verify_inputs(alloc, certificate, inputs, files),
     }
 }
 

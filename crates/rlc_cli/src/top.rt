@@ -13,12 +13,13 @@ use rlc_base::NoMemory;
 use std::alloc::Global;
 
 /// Does what the words ask for. `check` reports the leaks of the program of its files, `run` runs a `main` of it and writes the
-/// ledger, `gen` says how many leaks a generated program has, and `settings` prints a settings file in the newest version; other words are `Usage`. The text of the answer is made whole before
+/// ledger, `gen` says how many leaks a generated program has, `settings` prints a settings file in the newest version, `certify` writes a certificate of
+/// an accepted program, and `verify` says whether a text is one; other words are `Usage`. The text of the answer is made whole before
 /// the first write.
 ///
 /// Each status has its cause (`answered`). `check` is `Accepted` where its files make a program that is well formed and in which no path
 /// of a body breaks a rule, so that it is safe in every run, and
-/// `Leaks` where they derive one (`headline`). A count of faults of writing that rose comes with `WriteFault`, and with it alone
+/// `Leaks` where they derive one; `verify` is `Accepted` where the text is a certificate of the program, which is then accepted (`headline`). A count of faults of writing that rose comes with `WriteFault`, and with it alone
 /// (`write_rose`); one of reading comes with `ReadFault`, unless writing the line fails or memory runs out (`read_rose`). Over files that
 /// are all there and sound no fault of reading comes (`files_hold`), and `WriteFault` comes only where the sink is not sure of room for the
 /// text. Want of memory may come at any time, and then nothing was written.

@@ -4,6 +4,7 @@ use Rattle.std.specs.FinSet as set
 use Rattle.std.proofs.lemmas.Bool.{eq-eqb}
 use Rattle.rlc_base.specs.declared.faults.Refusal.{Refusal}
 use Rattle.rlc_base.specs.NameSet.{Decides-is_same, is_same}
+use Rattle.rlc_base.proofs.SetLaws.{empty_within}
 use Rattle.program_model.proofs.NameLaws.{none_union, union_none}
 use Rattle.program_model.specs.declared.kinds.BodyId.{BodyId}
 use Rattle.program_model.specs.declared.kinds.ClassId.{ClassId}
@@ -59,13 +60,16 @@ owning_right = simp (promises_all, within_itself no_names, close_not_none) refl
 same_close : is_same close_alone close_alone ≡ true
 same_close = (Decides-is_same close_alone close_alone).1 refl
 
+none_within : set.is_subset no_names close_alone ≡ true
+none_within = empty_within close_alone
+
 pub well_formed : IsWellFormed wrapping
 well_formed = record {
   valid = valid_program;
   bodies = has_bodies;
   interests = interests;
   unassigned = unassigned;
-  aliases = simp (same_close, within_itself no_names) refl;
+  aliases = simp (same_close, within_itself no_names, within_itself close_alone, none_within) refl;
   overrides = refl;
   owning = owning_right;
   resets = refl;

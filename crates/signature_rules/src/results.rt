@@ -7,12 +7,11 @@ ghost use Rattle.program_model.specs.Lookups.{method_at};
 ghost use Rattle.program_model.specs.NameSets.{is_empty};
 ghost use Rattle.program_model.specs.SuperTests.{has_class};
 ghost use Rattle.must_call_sets.specs.MustCallSets.{must_of_optional};
-ghost use Rattle.must_call_reset.specs.OwningCases.{given_type, gives_as_alias, is_of_type};
 ghost use Rattle.refusal_order.specs.Refusals.{least, least_of_all, verdict_of};
 ghost use Rattle.signature_rules.specs.ResultCases.{all_owe_nothing, are_lost_beside, declares_losing, gives_obligation, has_lost_result, is_lost_beside, may_lose, owes_nothing, result_cases, result_cases_in};
 
 use class_overrides::are_alike;
-use must_call_sets::{is_constructor_kind, must_of_optional};
+use must_call_sets::{is_given_as_alias, must_of_optional};
 use program_model::{Class, ClassId, Method, MethodId, MethodKind, Program, VType, under};
 use refusal_order::{lesser_of, verdict_of, where_true};
 use rlc_base::{Code, NameSet, Refusal};
@@ -23,39 +22,6 @@ fn lists(classes: &[ClassId], class: ClassId) -> bool
     ensures { result ≡ has_class classes.now class }
 {
     classes.iter().any(|listed| *listed == class)
-}
-
-// Whether objects of the class are of the type.
-fn is_of_type(class: &Class, vtype: Option<VType>) -> bool
-    ensures { result ≡ is_of_type class.now vtype }
-{
-    match vtype {
-        Some(VType::Obj(above)) => lists(&class.above, above),
-        _ => false,
-    }
-}
-
-// The type of what the method or constructor gives.
-fn given_type(method: &Method) -> Option<VType>
-    ensures { result ≡ given_type method.now }
-{
-    if is_constructor_kind(method.kind) {
-        Some(VType::Obj(method.class))
-    } else {
-        method.sig.result
-    }
-}
-
-fn gives_as_alias(class: &Class, method: &Method) -> bool
-    ensures { result ≡ gives_as_alias class.now method.now }
-{
-    method.sig.alias.is_some() && is_of_type(class, given_type(method))
-}
-
-fn is_given_as_alias(p: &Program, class: &Class) -> bool
-    ensures { result ≡ list_any (gives_as_alias class.now) p.now.methods.items }
-{
-    p.methods.iter().any(|method| gives_as_alias(class, method))
 }
 
 fn owes_nothing(p: &Program, class: &Class) -> bool

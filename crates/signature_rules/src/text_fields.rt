@@ -3,11 +3,10 @@
 ghost use Rattle.std.specs.List.{list_any};
 ghost use Rattle.std.specs.Prelude.{◌≡◌, ◌&&◌, Some};
 ghost use Rattle.refusal_order.specs.Refusals.{least, least_of_all, verdict_of};
-ghost use Rattle.must_call_sets.specs.OwningCases.{type_at_some};
 ghost use Rattle.signature_rules.specs.TextFieldCases.{may_be_text, may_own_renewed_text, may_renew_text, text_field_cases, text_field_cases_in};
 
-use must_call_sets::type_at;
-use program_model::{Field, Method, Program, Sig, VType, under};
+use must_call_sets::type_at_some;
+use program_model::{Field, Method, Program, VType, under};
 use refusal_order::{lesser_of, verdict_of, where_true};
 use rlc_base::{Code, Refusal};
 
@@ -19,15 +18,6 @@ fn may_be_text(p: &Program, vtype: Option<VType>) -> bool
         Some(VType::Str) => true,
         Some(VType::Obj(class)) => under(p, p.core.string, class),
         Some(VType::Primitive(_) | VType::Arr(_) | VType::NullType) | None => false,
-    }
-}
-
-fn type_at_some(sig: &Sig, position: Option<u32>) -> Option<VType>
-    ensures { result ≡ type_at_some sig.now position }
-{
-    match position {
-        None => None,
-        Some(found) => type_at(sig, found),
     }
 }
 

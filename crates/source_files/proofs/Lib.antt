@@ -1,1 +1,2 @@
+pub mod LaterCounts
 pub mod ReadingLaws

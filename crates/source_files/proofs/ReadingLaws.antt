@@ -42,14 +42,14 @@ too_big : (told : Option Contents) (name : List ℕ) (c one : Counts) → c.take
 too_big None name c one below same past = past_from (max_file + 1) c.taken one.taken c.taken_now below (rw (sym same) past)
 too_big (Some files) name c one below same past = past
 
-pub record IsNext {X : Type 0} (told : Option Contents) (f : X → List ℕ) (xs : List X) (i : ℕ) (x : X) (texts : List (List ℕ)) : Type 0 where
+pub record IsNext {X : Type 0} (told : Option Contents) (held : ℕ) (f : X → List ℕ) (xs : List X) (i : ℕ) (x : X) (texts : List (List ℕ)) : Type 0 where
   pub inside : i < length xs
   pub at : x ≡ get_or xs i x
   pub read : AreContents told (map f (take i xs)) texts
-  pub few : total_of texts ≤ max_text
+  pub few : held + total_of texts ≤ max_text
 
-reached : {X : Type 0} (told : Option Contents) (f : X → List ℕ) (xs : List X) (i : ℕ) (x : X) (texts : List (List ℕ)) (n : ℕ) → n ≡ length texts → IsNext told f xs i x texts → Reaches told (map f xs) n (f x) texts
-reached told f xs i x texts n is h = record {
+reached : {X : Type 0} (told : Option Contents) (held : ℕ) (f : X → List ℕ) (xs : List X) (i : ℕ) (x : X) (texts : List (List ℕ)) (n : ℕ) → n ≡ length texts → IsNext told held f xs i x texts → Reaches told held (map f xs) n (f x) texts
+reached told held f xs i x texts n is h = record {
   before = map f (take i xs);
   behind = map f (drop (suc i) xs);
   split = split_at f xs i x h.inside h.at;
@@ -59,13 +59,13 @@ reached told f xs i x texts n is h = record {
 }
 
 -- Where reading the next file stopped, reading all of them did.
-pub stopped : {X : Type 0} (A : Type 0) (told now : Option Contents) (f : X → List ℕ) (xs : List X) (i : ℕ) (x : X) (name : List ℕ) (texts : List (List ℕ)) (at total : ℕ) (c one : Counts) (stop : ReadingStop)
-    → now ≡ told → name ≡ f x → at ≡ length texts → total ≡ total_of texts → one.faults ≡ c.faults → one.faults_now ≡ c.faults_now → c.taken ≤ one.taken → one.taken_now ≡ c.taken_now → IsNext told f xs i x texts
-    → IsOneReading now name at total one (Err stop) → IsReading {A = A} told (map f xs) c (Err stop)
-stopped A told now f xs i x name texts at total c one (Failed n) same named place sum before after below taken h (is, rose) =
-    (f x, texts, reached told f xs i x texts n (is ∙ place) h, rw (sym before) (rw (sym after) rose))
-stopped A told now f xs i x name texts at total c one (TooBig n) same named place sum before after below taken h (is, past, none) =
-    (f x, texts, reached told f xs i x texts n (is ∙ place) h, too_big told (f x) c one below taken (rw (sym named) (rw (sym same) past)), sym after ∙ none ∙ before)
-stopped A told now f xs i x name texts at total c one (TooMuch n) same named place sum before after below taken h (is, (bytes, content, fits, past), none) =
-    (f x, texts, reached told f xs i x texts n (is ∙ place) h, record { bytes = bytes; content = rw (sym named) (rw (sym same) content); fits = fits; past = rw (sym sum) past }, sym after ∙ none ∙ before)
-stopped A told now f xs i x name texts at total c one NoMemory same named place sum before after below taken h none = sym after ∙ none ∙ before
+pub stopped : {X : Type 0} (A : Type 0) (told now : Option Contents) (held : ℕ) (f : X → List ℕ) (xs : List X) (i : ℕ) (x : X) (name : List ℕ) (texts : List (List ℕ)) (at total : ℕ) (c one : Counts) (stop : ReadingStop)
+    → now ≡ told → name ≡ f x → at ≡ length texts → total ≡ held + total_of texts → one.faults ≡ c.faults → one.faults_now ≡ c.faults_now → c.taken ≤ one.taken → one.taken_now ≡ c.taken_now → IsNext told held f xs i x texts
+    → IsOneReading now name at total one (Err stop) → IsReading {A = A} told held (map f xs) c (Err stop)
+stopped A told now held f xs i x name texts at total c one (Failed n) same named place sum before after below taken h (is, rose) =
+    (f x, texts, reached told held f xs i x texts n (is ∙ place) h, rw (sym before) (rw (sym after) rose))
+stopped A told now held f xs i x name texts at total c one (TooBig n) same named place sum before after below taken h (is, past, none) =
+    (f x, texts, reached told held f xs i x texts n (is ∙ place) h, too_big told (f x) c one below taken (rw (sym named) (rw (sym same) past)), sym after ∙ none ∙ before)
+stopped A told now held f xs i x name texts at total c one (TooMuch n) same named place sum before after below taken h (is, (bytes, content, fits, past), none) =
+    (f x, texts, reached told held f xs i x texts n (is ∙ place) h, record { bytes = bytes; content = rw (sym named) (rw (sym same) content); fits = fits; past = rw (sym sum) past }, sym after ∙ none ∙ before)
+stopped A told now held f xs i x name texts at total c one NoMemory same named place sum before after below taken h none = sym after ∙ none ∙ before

@@ -1,7 +1,7 @@
 -- What it is that several files were read, one after another, or that reading them stopped at one.
 use Rattle.std.specs.Prelude.{◌≡◌, ◌<◌, ◌≤◌, ◌+◌, ◌++◌, ◌∷◌, [], ℕ, List, length, Option, None, Some, Result, Ok, Err, Vec}
 use Rattle.outside.specs.Counts.{Rose}
-use Rattle.outside.specs.Files.{Contents, HasFile, TakesPast, file, max_file}
+use Rattle.outside.specs.Files.{Contents, HasFile, TakesMore, file, max_file}
 use Rattle.source_files.specs.declared.stops.ReadingStop.{ReadingStop}
 use Rattle.source_files.specs.declared.stops.ReadingStop.TheVariants.{Failed, TooBig, TooMuch, NoMemory}
 
@@ -25,14 +25,15 @@ AreContents told (name ∷ names) (text ∷ texts) = IsContent told name text ×
 AreContents told [] (text ∷ texts) = ⊥
 AreContents told (name ∷ names) [] = ⊥
 
--- The first so many files were read, and have not too much text together; then comes the file of this name.
-pub record Reaches (told : Option Contents) (names : List (List ℕ)) (at : ℕ) (name : List ℕ) (texts : List (List ℕ)) : Type 0 where
+-- The first so many files were read, and have not too much text together with the bytes that were held before; then comes the file of this
+-- name.
+pub record Reaches (told : Option Contents) (held : ℕ) (names : List (List ℕ)) (at : ℕ) (name : List ℕ) (texts : List (List ℕ)) : Type 0 where
   pub before : List (List ℕ)
   pub behind : List (List ℕ)
   pub split : names ≡ before ++ name ∷ behind
   pub count : length texts ≡ at
   pub read : AreContents told before texts
-  pub few : total_of texts ≤ max_text
+  pub few : held + total_of texts ≤ max_text
 
 -- how the counts of the files stood before and stand after
 pub record Counts : Type 0 where
@@ -44,25 +45,29 @@ pub record Counts : Type 0 where
 abbrev pub CountsNoFault : Counts → Type 0
 CountsNoFault c = c.faults_now ≡ c.faults
 
+-- the file has more than so many bytes
+abbrev pub IsLonger : ℕ → Option Contents → List ℕ → Counts → Type 0
+IsLonger most None name c = TakesMore most c.taken c.taken_now
+IsLonger most (Some files) name c = (bytes : List ℕ) × (file files name ≡ Some bytes) × (most < length bytes)
+
 -- the file has more bytes than a file may have
 abbrev pub IsTooBig : Option Contents → List ℕ → Counts → Type 0
-IsTooBig None name c = TakesPast c.taken c.taken_now
-IsTooBig (Some files) name c = (bytes : List ℕ) × (file files name ≡ Some bytes) × (max_file < length bytes)
+IsTooBig told name c = IsLonger max_file told name c
 
 -- the file has these bytes, and passes with them what all files may have together
-pub record IsPast (told : Option Contents) (name : List ℕ) (texts : List (List ℕ)) : Type 0 where
+pub record IsPast (told : Option Contents) (held : ℕ) (name : List ℕ) (texts : List (List ℕ)) : Type 0 where
   pub bytes : List ℕ
   pub content : IsContent told name bytes
   pub fits : length bytes ≤ max_file
-  pub past : max_text < total_of texts + length bytes
+  pub past : max_text < held + total_of texts + length bytes
 
--- Why reading these files ended so. Want of memory is always a reason.
-abbrev pub IsReading : {A : Type 0} → Option Contents → List (List ℕ) → Counts → Result (Vec (List ℕ) A) ReadingStop → Type 0
-IsReading told names c (Ok texts) = AreContents told names texts.items × (total_of texts.items ≤ max_text) × CountsNoFault c
-IsReading told names c (Err (Failed at)) = (name : List ℕ) × (texts : List (List ℕ)) × Reaches told names at name texts × Rose c.faults c.faults_now
-IsReading told names c (Err (TooBig at)) = (name : List ℕ) × (texts : List (List ℕ)) × Reaches told names at name texts × IsTooBig told name c × CountsNoFault c
-IsReading told names c (Err (TooMuch at)) = (name : List ℕ) × (texts : List (List ℕ)) × Reaches told names at name texts × IsPast told name texts × CountsNoFault c
-IsReading told names c (Err NoMemory) = CountsNoFault c
+-- Why reading these files ended so, where so many bytes were held before. Want of memory is always a reason.
+abbrev pub IsReading : {A : Type 0} → Option Contents → ℕ → List (List ℕ) → Counts → Result (Vec (List ℕ) A) ReadingStop → Type 0
+IsReading told held names c (Ok texts) = AreContents told names texts.items × (held + total_of texts.items ≤ max_text) × CountsNoFault c
+IsReading told held names c (Err (Failed at)) = (name : List ℕ) × (texts : List (List ℕ)) × Reaches told held names at name texts × Rose c.faults c.faults_now
+IsReading told held names c (Err (TooBig at)) = (name : List ℕ) × (texts : List (List ℕ)) × Reaches told held names at name texts × IsTooBig told name c × CountsNoFault c
+IsReading told held names c (Err (TooMuch at)) = (name : List ℕ) × (texts : List (List ℕ)) × Reaches told held names at name texts × IsPast told held name texts × CountsNoFault c
+IsReading told held names c (Err NoMemory) = CountsNoFault c
 
 -- all files are there, where contents are told
 abbrev pub HasAll : Option Contents → List (List ℕ) → Type 0

@@ -40,22 +40,24 @@ fn read_one<F: Files>(
     Ok(Text::from_bytes(bytes))
 }
 
-/// Reads the files of these names, in this order. The first that is missing or whose reading fails, that is longer than
-/// `outside::MAX_FILE`, or with which all are longer than `MAX_TEXT` together stops the reading, with its number.
-/// Over files that are all there and sound no fault is counted (`holds`).
+/// Reads the files of these names, in this order, where `held` bytes were read before. The first that is missing or whose reading
+/// fails, that is longer than `outside::MAX_FILE`, or with which all are longer than `MAX_TEXT` together with those bytes stops the
+/// reading, with its number. Over files that are all there and sound no fault is counted (`holds`).
 pub fn read_all<F: Files>(
     alloc: Global,
+    held: usize,
     names: &[String],
     files: &mut F,
 ) -> Result<Vec<Text>, ReadingStop>
-    ensures cause { IsReading (F.contents files.old) (map string_bytes names.now) (record { faults = F.faults files.old; faults_now = F.faults files.new; taken = F.taken files.old; taken_now = F.taken files.new }) result }
+    requires { held ≤ max_text }
+    ensures cause { IsReading (F.contents files.old) held (map string_bytes names.now) (record { faults = F.faults files.old; faults_now = F.faults files.new; taken = F.taken files.old; taken_now = F.taken files.new }) result }
     ensures told { F.contents files.new ≡ F.contents files.old }
     ensures holds { F.sound files.old → HasAll (F.contents files.old) (map string_bytes names.now) → F.faults files.new ≡ F.faults files.old }
     ensures stays_sound { F.sound files.old → F.sound files.new }
     ensures never_falls { F.taken files.old ≤ F.taken files.new }
 {
     let mut texts = Vec::new(alloc);
-    let mut total = 0;
+    let mut total = held;
     'each: for name in names {
         let text = match read_one(alloc, name, texts.len(), total, files) {
             Ok(text) => text,

@@ -1,4 +1,5 @@
 pub mod NoteTurns
+pub mod NewNotes
 pub mod PlacedLaws
 pub mod ObjectLists
 pub mod SpreadLaws

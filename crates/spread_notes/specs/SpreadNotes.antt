@@ -42,6 +42,10 @@ rises_beyond k (b ∷ bs) = nat_lt k b.number && rises_beyond b.number bs
 
 -- What follows from notes
 
+-- what follows from the notes `done` is among the others
+abbrev pub HasFollows : Program → HeapContents → List Note → List Note → Type 0
+HasFollows p h done ns = joined ns (flat_map (follows p h) done) ≡ ns
+
 -- these notes are all that follow from the first ones, and nothing more follows. Each turn but the last adds one at least
 pub record SpreadsTo (p : Program) (h : HeapContents) (first all : List Note) : Type 0 where
   pub turns : ℕ

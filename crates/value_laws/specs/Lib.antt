@@ -72,3 +72,4 @@ pub use Rattle.dispatch_laws.specs.Storing
 pub use Rattle.dispatch_laws.specs.SuperArguments
 pub use Rattle.dispatch_laws.specs.Typed
 pub use Rattle.frame_laws.specs.Positions
+pub use Rattle.frame_laws.specs.Results

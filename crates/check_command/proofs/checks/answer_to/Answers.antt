@@ -11,4 +11,5 @@ returns c = λ files p faults. leaking p c.args.faults.count faults.program (fau
 pub returns-then-faults-eq0 : goal.returns-then-faults-eq0
 returns-then-faults-eq0 c = λ files p faults.
     let none : c.args.faults.count ≡ 0 = omega (arith, c.if-faults-eq0.true) in
-    accepted p faults.program (counted_accepted (input_of faults.program.settings files) p faults.program.program (subst (IsFaultCount p) none faults.counted) (faults.none none)) refl c.new.ensures
+    let counted : IsFaultCount p 0 = subst (IsFaultCount p) none faults.counted in
+    accepted p faults.program (counted_accepted (input_of faults.program.settings files) p faults.program.program counted (faults.none none)) counted refl c.new.ensures

@@ -1,6 +1,6 @@
 use Rattle.command_inputs.proofs.HaltLaws.{answers_too}
 use Rattle.command_inputs.proofs.ReadLaws.{read_as_many}
-use Rattle.command_inputs.specs.Inputs.{AreFileTexts, names_of, texts_of}
+use Rattle.command_inputs.specs.Inputs.{texts_of}
 use Rattle.command_programs.proofs.ShortLaws.{read_short}
 use Rattle.check_command.specs.Checks.{read}
 use Rattle.check_command.proofs.checks.check_files.Goals as goal

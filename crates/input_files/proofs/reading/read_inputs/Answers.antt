@@ -7,7 +7,7 @@ use Rattle.input_files.proofs.reading.read_inputs.Goals as goal
 pub stop_answer-requires : goal.stop_answer-requires
 stop_answer-requires g c =
     subst (λ (n : ℕ). IsInside n c.in-Err.stop) (length-map c.args.names.now (string_bytes {Z = Global}))
-    (stopped_inside (g.F.Files.contents c.args.files.now) (map (string_bytes {Z = Global}) c.args.names.now)
+    (stopped_inside (g.F.Files.contents c.args.files.now) c.args.held (map (string_bytes {Z = Global}) c.args.names.now)
     (record {
       faults = g.F.Files.faults c.args.files.now;
       faults_now = g.F.Files.faults c.read_all.new.files;

@@ -4,7 +4,7 @@ use Rattle.source_files.proofs.reading.read_all.Goals as goal
 
 pub returns-in-Err-clause-cause : goal.returns-in-Err-clause-cause
 returns-in-Err-clause-cause g c =
-    stopped Global _ _ string_bytes c.args.names.now c.each.name-index c.name-item.result c.deref.result.now c.each.texts.items c.len.result c.each.total _ _ c.in-Err.stop
+    stopped Global _ _ c.args.held string_bytes c.args.names.now c.each.name-index c.name-item.result c.deref.result.now c.each.texts.items c.len.result c.each.total _ _ c.in-Err.stop
     c.each.invariant.told c.deref.ensures (omega (arith, c.len.ensures)) c.each.invariant.total c.each.invariant.no_fault refl c.each.invariant.taken refl
     (record { inside = c.each-test.true; at = c.name-item.is; read = c.each.invariant.texts; few = omega (arith, c.each.invariant.total, c.each.invariant.few) })
     c.in-Err.ensures.cause

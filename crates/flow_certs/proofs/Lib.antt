@@ -1,0 +1,16 @@
+pub mod ListPlaces
+pub mod CutLaws
+pub mod NumberLaws
+pub mod LineLaws
+pub mod FormLaws
+pub mod EqLaws
+pub mod SetLaws
+pub mod ListingLaws
+pub mod OriginLists
+pub mod TestLaws
+pub mod BirthLaws
+pub mod StepLaws
+pub mod BodyLaws
+pub mod ProgramLaws
+pub mod OneGraph
+pub mod CertificateLaws
