@@ -89,7 +89,8 @@ final class EngineAnswersTest {
       echo 'garbage'; exit 2                         | rlc refuses the lowered program: garbage
       printf '\\377\\376\\000\\001'; exit 1          | cannot read: ??
       printf '\\377\\376\\000\\001'; exit 2          | rlc refuses the lowered program: ??
-      yes 'no report' | head -c 3000000; exit 1      | cannot read: no report
+      head -c 3000000 /dev/zero; exit 1              | cannot read: ???
+      head -c 300000000 /dev/zero; exit 1            | more than any answer has
       printf 'Bodies0.java:3:1: exit missing close\\n'; exit 1 | cannot read
       printf 'Bodies0.java:1:1: exit missing close\\n  origin new X 1:1\\n'; exit 1 | outside of every body
       printf 'Bodies0.java:99999999:1: exit missing close\\n  origin new X 1:1\\n'; exit 1 | outside of every body

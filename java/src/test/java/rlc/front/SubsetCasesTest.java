@@ -33,14 +33,16 @@ final class SubsetCasesTest {
   private static final int FEWEST = 150;
 
   /**
-   * Of a field on whose content nothing must be called the front asks nothing, since in its lowered
-   * form the field owns nothing: a store of what somebody must close is a leak there. The last of
-   * these has a leak, which is reported at another place.
+   * Programs about objects on which nothing must be called, which the lowered form does not follow:
+   * a field with such content owns nothing, so that a store of what somebody must close is a leak
+   * there; a promise of calls on such an object is reported. One of these has a leak, which is
+   * reported at another place.
    */
-  private static final Set<String> LIGHT_FIELDS = Set.of(
+  private static final Set<String> NOT_FOLLOWED = Set.of(
       "field of a type without an obligation stored outside a constructor",
       "field of a type without an obligation set to null outside a constructor",
-      "light field stored behind the back of who stores into it");
+      "light field stored behind the back of who stores into it",
+      "promise forms");
 
   private static final Pattern HEAD = Pattern.compile("([^ :]+):(\\d+):\\d+: (\\S+) missing.*");
   private static final Pattern ORIGIN = Pattern.compile("  origin (\\S+) \\S+ (\\d+):\\d+");
@@ -82,7 +84,7 @@ final class SubsetCasesTest {
         notChecked.addAll(alone.notChecked());
       }
     }
-    programs.removeIf(it -> LIGHT_FIELDS.stream().anyMatch(it.name()::endsWith));
+    programs.removeIf(it -> NOT_FOLLOWED.stream().anyMatch(it.name()::endsWith));
     found.removeIf(at -> programs.stream().noneMatch(it -> at.startsWith(it.folder() + "/")));
     // Programs at the last level that is allowed have one more in their lowered form.
     notChecked.removeIf(it -> it.endsWith("61 TooDeep"));

@@ -60,10 +60,11 @@ public final class StubWriter {
       signatures.add("}");
     }
     List<String> types = new ArrayList<>();
-    for (LoweredType it : program.types().declared()) {
-      type(it, types);
-    }
     program.types().allMade().forEach(it -> made(it, types));
+    // A type that is written may name others that were not asked for before.
+    for (int i = 0; i < program.types().declared().size(); i++) {
+      type(program.types().declared().get(i), types);
+    }
     StringBuilder text = new StringBuilder("package p;\n");
     types.forEach(it -> text.append(it).append('\n'));
     helpers(text);

@@ -36,7 +36,7 @@ import rlc.front.stubs.Stubs;
  * the compiler.
  */
 public final class Session implements TaskListener {
-  private static final int MOST_NOT_CHECKED = 20;
+  private static final int MOST_OF_ALL = 20;
 
   private final JavacTask task;
   private final Options options;
@@ -48,6 +48,7 @@ public final class Session implements TaskListener {
   private CompilationUnitTree anyUnit;
   private long nanoseconds;
   private boolean finished;
+  private boolean failed;
   private Summary summary;
 
   /** Of a compilation, with options. */
@@ -173,6 +174,7 @@ public final class Session implements TaskListener {
 
   /** Says that no body was judged, and why. */
   private void fail(String reason) {
+    failed = true;
     bodies.forEach(it -> it.leaveOut(reason));
     tell(Diagnostic.Kind.ERROR, "[rlc] nothing is known of this program: " + reason, anyUnit,
         anyUnit);
@@ -207,8 +209,9 @@ public final class Session implements TaskListener {
     List<SourceBody> all = bodies.stream().filter(it -> !it.isSuppressed() && it.reason() != null)
         .toList();
     for (SourceBody it : all) {
-      if (told++ == MOST_NOT_CHECKED) {
-        System.err.println("rlc: and " + (all.size() - MOST_NOT_CHECKED)
+      // Where no body is checked, the error says so.
+      if (failed && told++ == MOST_OF_ALL) {
+        System.err.println("rlc: and " + (all.size() - MOST_OF_ALL)
             + " more bodies are not checked");
         break;
       }

@@ -9,6 +9,7 @@ import java.nio.file.attribute.PosixFilePermissions;
 import java.util.ArrayList;
 import java.util.Comparator;
 import java.util.List;
+import java.util.concurrent.TimeUnit;
 import java.util.stream.Stream;
 import rlc.front.output.SkeletonFile;
 
@@ -20,6 +21,8 @@ public final class Engine implements AutoCloseable {
   /** The name of the file of signatures. */
   static final String STUB = "signatures.astub";
 
+  private static final long MOST_BYTES = 256_000_000;
+  private static final long WAIT_MILLISECONDS = 50;
   private static final String BUNDLED = "/rlc/engine/rlc";
   private static final String SETTINGS =
       "version = 2\n"
@@ -91,20 +94,34 @@ public final class Engine implements AutoCloseable {
     } catch (IOException e) {
       throw new RunException("rlc cannot be started: " + e.getMessage());
     }
-    int status = waitFor(process);
+    int status = waitFor(process, out, errors);
     String text = new String(Files.readAllBytes(out), StandardCharsets.UTF_8);
     String error = new String(Files.readAllBytes(errors), StandardCharsets.UTF_8).strip();
     refuse(status, text, error);
     return new Answer(status, text);
   }
 
-  private static int waitFor(Process process) throws RunException {
+  /** Waits for the end, and ends what writes more than any answer has. */
+  private static int waitFor(Process process, Path out, Path errors)
+      throws IOException, RunException {
     try {
-      return process.waitFor();
+      while (!process.waitFor(WAIT_MILLISECONDS, TimeUnit.MILLISECONDS)) {
+        refuseMore(process, out, errors);
+      }
+      refuseMore(process, out, errors);
+      return process.exitValue();
     } catch (InterruptedException e) {
       process.destroy();
       Thread.currentThread().interrupt();
       throw new RunException("the run of rlc was interrupted");
+    }
+  }
+
+  private static void refuseMore(Process process, Path out, Path errors)
+      throws IOException, RunException {
+    if (Files.size(out) > MOST_BYTES || Files.size(errors) > MOST_BYTES) {
+      process.destroyForcibly();
+      throw new RunException("rlc wrote more than any answer has");
     }
   }
 

@@ -9,7 +9,6 @@ import javax.lang.model.element.ElementKind;
 import javax.lang.model.element.ExecutableElement;
 import javax.lang.model.element.TypeElement;
 import javax.lang.model.element.VariableElement;
-import javax.lang.model.type.TypeKind;
 import javax.lang.model.type.TypeMirror;
 import rlc.front.project.Attribution;
 import rlc.front.signatures.Signature.Ownership;
@@ -62,8 +61,7 @@ public final class Signatures {
    * @param thrown the exceptions of this call
    */
   public Signature of(ExecutableElement method, int variable, List<? extends TypeMirror> thrown) {
-    List<? extends TypeMirror> mine = hasTypeVariables(method) ? thrown : method.getThrownTypes();
-    List<LoweredType> lowered = mine.stream().map(types::of).toList();
+    List<LoweredType> lowered = thrown.stream().map(types::of).toList();
     Key key = new Key(method, variable, lowered.stream().map(LoweredType::name).toList());
     Signature found = known.get(key);
     if (found == null) {
@@ -78,10 +76,6 @@ public final class Signatures {
     List<LoweredType> thrown = method.getThrownTypes().stream().map(types::of).toList();
     return annotations.isTrusted(method)
         ? make(method, annotations.marksOfBody(method), -1, thrown) : of(method);
-  }
-
-  private static boolean hasTypeVariables(ExecutableElement method) {
-    return method.getThrownTypes().stream().anyMatch(it -> it.getKind() == TypeKind.TYPEVAR);
   }
 
   /** Notes that a call needs a signature in the stub, and gives how the call begins. */

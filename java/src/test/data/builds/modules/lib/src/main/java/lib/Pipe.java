@@ -37,6 +37,7 @@ public final class Pipe implements Closeable {
   }
 
   @Override
+  @EnsuresCalledMethods(value = "this.in", methods = "close")
   public void close() throws IOException {
     in.close();
   }
