@@ -4,6 +4,8 @@
 # crates/rlc/out.
 set -euo pipefail
 cd "$(dirname "$0")"
+# Sources and names of files are UTF-8, whatever the machine says.
+export LC_ALL=C.UTF-8
 ./install.sh
 picocli=/usr/share/java/picocli.jar
 
@@ -12,7 +14,7 @@ engine=${RLC:-../crates/rlc/out/rlc}
 rm -rf build/classes build/jar build/engine
 mkdir -p build/classes build/jar build/engine
 find src/main/java -name '*.java' > build/sources
-javac --release 17 -Xlint:all,-processing,-try -Werror -cp "$picocli" -d build/classes @build/sources
+javac --release 17 -encoding UTF-8 -Xlint:all,-processing,-try -Werror -cp "$picocli" -d build/classes @build/sources
 cp -r build/classes/. src/main/resources/. build/jar/
 
 # The stubs of the repository ($STUBS in their place) are one source for rlc and the front.

@@ -3,6 +3,8 @@
 # The program rlc is the one that build.sh finds; the tests need it.
 set -uo pipefail
 cd "$(dirname "$0")"
+# Sources and names of files are UTF-8, whatever the machine says.
+export LC_ALL=C.UTF-8
 # The tests of builds run Maven and Make.
 ./install.sh maven make libmaven-compiler-plugin-java libmaven-resources-plugin-java || exit 2
 ./build.sh || exit 2
@@ -17,7 +19,7 @@ jars=$(printf '%s:' /usr/share/java/junit-jupiter-api.jar /usr/share/java/junit-
   /usr/share/java/apiguardian-api.jar /usr/share/java/univocity-parsers.jar /usr/share/java/picocli.jar)
 rm -rf build/tests && mkdir -p build/tests
 find src/test/java -name '*.java' > build/test-sources
-javac --release 17 -Xlint:all,-processing,-try,-path -cp "build/jar:$jars" -d build/tests @build/test-sources || exit 2
+javac --release 17 -encoding UTF-8 -Xlint:all,-processing,-try,-path -cp "build/jar:$jars" -d build/tests @build/test-sources || exit 2
 RLC_ENGINE=$(readlink -f "$engine") RLC_FRONT=$(readlink -f build) \
   java -XX:+UseSerialGC -cp "build/tests:build/jar:$jars" org.junit.platform.console.ConsoleLauncher \
   ${CLASSES:---scan-classpath build/tests} --disable-banner --details=summary --disable-ansi-colors "$@" > build/test-log 2>&1
